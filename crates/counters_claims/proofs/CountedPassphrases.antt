@@ -30,7 +30,7 @@ use Rattle.supervisor_claims.specs.Forgets.{passphraseSet, isReceiving, Nothing
 use Rattle.supervisor_claims.specs.TwoPassphrases
 use Rattle.supervisor_claims.specs.TwoPassphrases.{RunCall, otherOutputs, leftByCalls, bytesBrought, WhileSet}
 use Rattle.supervisor_claims.specs.TwoPassphrases.{SetCalls, BringsSet, TypedTurn}
-use Rattle.supervisor_claims.specs.TwoPassphrases.{callsOfTurns, firstRun, secondRun, BeginsBetween}
+use Rattle.supervisor_claims.specs.TwoPassphrases.{callsOfSet, firstRun, secondRun, BeginsBetween}
 use Rattle.supervisor_claims.proofs.laws.Progress.{Since}
 use Rattle.supervisor_claims.proofs.claims.History.{started}
 use Rattle.supervisor_claims.proofs.claims.MixedClaim.{through-last, tail-none, mixed-meets}
@@ -56,7 +56,7 @@ calls-append [] ys = refl
 calls-append (x ∷ xs) ys = rw (calls-append xs ys)
 
 set-calls : (x : LendingSet) (ys : List RunLending)
-    → callsOfRun (lendingsOfSet x ++ ys) ≡ callsOfTurns (setCallsOf x) ++ callsOfRun ys
+    → callsOfRun (lendingsOfSet x ++ ys) ≡ callsOfSet (setCallsOf x) ++ callsOfRun ys
 unfolding callsOfRun
 set-calls x ys = rw (calls-append (lendingsOfSet x) ys, calls-append (x .ahead))
 
@@ -295,7 +295,7 @@ one-ended version number v w r s false = refl
 
 -- behind it the parts are sound, and nothing has come of a frame
 behind-set : (version number : ℕ) (x : SetCalls) → BringsSet version number x → (p : Parts) → Sound p → NothingCome p
-    → Sound (leftByCalls p (callsOfTurns x)) × Since (split [] .rest) (view (leftByCalls p (callsOfTurns x)))
+    → Sound (leftByCalls p (callsOfSet x)) × Since (split [] .rest) (view (leftByCalls p (callsOfSet x)))
 unfolding frame
 behind-set version number x k p s b =
     let a = Plain.ahead-sound version number x k p s b in
@@ -387,7 +387,7 @@ second-typed (CountedPassphrases.sets version number x y ∷ ts) t =
 
 pub two-counted-passphrases : TwoCountedPassphrases
 unfolding fresh split progressOf
-two-counted-passphrases p b l d typed h c ts t begins most =
+two-counted-passphrases p b l d typed h c ts t begins =
     let k = started p b l d typed h in
     let q = made p (Histories.startWith l d) .parts in
     let held : Held = record { parts = q; block = c } in
@@ -395,7 +395,7 @@ two-counted-passphrases p b l d typed h c ts t begins most =
     let since : Since (split [] .rest) (view q) = rw (k .0) none-yet in
     let x = as-unlent (firstCountedRun ts) held in
     let y = as-unlent (secondCountedRun ts) held in
-    let plain = two-passphrases p b l d typed h (turnsOf ts) (turns-typed ts t) begins most in (
+    let plain = two-passphrases p b l d typed h (turnsOf ts) (turns-typed ts t) begins in (
       rw (x .0, y .0, first-calls ts, second-calls ts) (plain .0),
       rw (x .1, y .1, first-calls ts, second-calls ts) (plain .1),
       mixed-counts (eventsOfRun (firstCountedRun ts)) [] q (k .1) since (first-typed ts t) c

@@ -3,16 +3,15 @@
 use mathlib.Core.Path.{_≡_}
 use mathlib.Core.Bool.{Bool, cond}
 use mathlib.Core.List.{List, [], _∷_, _++_}
-use Prim.Native.Nat.{ℕ, _<_}
+use Prim.Native.Nat.{ℕ}
 use Rattle.octets.specs.Bytes.{Each}
-use Rattle.supervisor.specs.Limits
 use Rattle.counters.specs.declared.Counters.{Counters}
 use Rattle.supervisor_claims.specs.Histories.{Made, FromStart}
 use Rattle.supervisor_claims.specs.MixedCalls
 use Rattle.supervisor_claims.specs.MixedCalls.{MixedCall, TypedMixed, DidMixed, didMixed, madeMixed, MixedOutput}
 use Rattle.supervisor_claims.specs.TwoRuns.{SameButPassphrase}
 use Rattle.supervisor_claims.specs.TwoPassphrases
-use Rattle.supervisor_claims.specs.TwoPassphrases.{RunCall, SetCalls, Turn, TwoSets, BeginsBetween, mostSets}
+use Rattle.supervisor_claims.specs.TwoPassphrases.{RunCall, SetCalls, Turn, TwoSets, BeginsBetween}
 use Rattle.counters_claims.specs.CountHistory.{madeCounted, Held, MixedEvent, lentBlock, withoutBlock, afterMixedEvents}
 
 -- ---- The calls of one run
@@ -112,7 +111,7 @@ secondCountedRun (sets version number x y ∷ ts) = lendingsOfSet y ++ secondCou
 -- byte for byte, but for the passphrase's record. The block may have held anything at the start.
 abbrev pub TwoCountedPassphrases : Type 0
 TwoCountedPassphrases = FromStart (λ p d q. (c : Counters) (ts : List CountedTurn) → Each TypedCountedTurn ts
-    → BeginsBetween q (turnsOf ts) → mostSets 0 [] (turnsOf ts) < Limits.last-edition
+    → BeginsBetween q (turnsOf ts)
     → let h : Held = record { parts = q; block = c } in
     let a = afterMixedEvents h (eventsOfRun (firstCountedRun ts)) in
     let b = afterMixedEvents h (eventsOfRun (secondCountedRun ts)) in

@@ -37,7 +37,7 @@ use Rattle.saving_claims.proofs.Item11.{saved-omits, other-key-31}
 use Rattle.supervisor_claims.proofs.TwoRuns.{two-states}
 use Rattle.supervisor_claims.proofs.claims.RunsSame.{two-runs}
 use Rattle.supervisor_claims.proofs.claims.StartForgets.{start-forgets}
-use Rattle.supervisor_claims.proofs.claims.SetUnseen.{set-unseen}
+use Rattle.supervisor_claims.proofs.claims.SetUnseen.{set-leaves, set-unseen}
 use Rattle.supervisor_claims.proofs.claims.TwoPassphrases.{two-passphrases}
 
 pub number-due : SupervisorNumberDue
@@ -167,6 +167,7 @@ item-14 = record {
   two-states = two-states;
   two-runs = two-runs;
   start-forgets = start-forgets;
+  set-leaves = set-leaves;
   set-unseen = set-unseen;
   two-passphrases = two-passphrases;
   saved-omits = saved-omits;

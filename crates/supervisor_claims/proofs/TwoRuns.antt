@@ -1,9 +1,10 @@
 -- The wireless passphrase is in no answer: two runs that differ only in its record answer and write the same (document 02, item 14).
 -- Assumes nothing.
 use mathlib.Core.Path.{_≡_, refl, sym, ap, _∙_}
+use mathlib.Core.Logic.{inl}
 use mathlib.Core.Bool.{Bool, true, false}
 use mathlib.Core.List.{List, [], _∷_}
-use Prim.Native.Nat.{ℕ, _+_, _≤_}
+use Prim.Native.Nat.{ℕ}
 use native.Mathlib.Omega.{arith}
 use Rattle.line.specs.Frame.{split}
 use Rattle.line.specs.Judge.{progressOf}
@@ -13,7 +14,7 @@ use Rattle.supervisor.specs.Calls.{Parts}
 use Rattle.supervisor.proofs.ValidLaws.{settings-valid}
 use Rattle.supervisor_claims.specs.View.{factoryOf, view}
 use Rattle.supervisor_claims.specs.Sound.{Sound}
-use Rattle.supervisor_claims.specs.Histories.{Means, Made, left}
+use Rattle.supervisor_claims.specs.Histories.{Means, Made}
 use Rattle.supervisor_claims.specs.FrameHistory.{startsAnew, receivedSince, outputsByFrames, leftByFrames}
 use Rattle.supervisor_claims.specs.TwoRuns.{Run, leftByRun, receivedInRun, record-end, SameButPassphrase}
 use Rattle.supervisor_claims.specs.TwoRuns.{withoutPassphrase, passphraseEdition, setsBrought, setsToCome}
@@ -22,7 +23,7 @@ use Rattle.supervisor_claims.proofs.laws.Progress.{Since}
 use Rattle.supervisor_claims.proofs.claims.History.{follows, started}
 use Rattle.supervisor_claims.proofs.claims.FramesClaim.{frames-follow}
 use Rattle.supervisor_claims.proofs.claims.MixedClaim.{mixed-since, sound-no-12}
-use Rattle.supervisor_claims.proofs.claims.TwoRunLaws.{Like, Room, Pair, anew-same, made-same, store-alike, store-room}
+use Rattle.supervisor_claims.proofs.claims.TwoRunLaws.{Like, Grow, Room, Pair, anew-same, made-same, store-alike, store-room}
 
 -- the same comes out, and what is left differs only in the passphrase
 abbrev Follow : List ℕ → List Made → State → State → Type 0
@@ -51,9 +52,9 @@ calls-follow (m ∷ ms) w s t p = by (startsAnew m) refl (calls-follow ms (recei
 pub without-like : (s t : State) → withoutPassphrase s ≡ withoutPassphrase t → Like s t
 without-like s t e = record { rest = ap (λ (x : State). withSettings x (s .settings)) e; settings = ap (λ (x : State). x .settings) e }
 
-pub view-room : (n : ℕ) (p : Parts) → passphraseEdition p + n ≤ Limits.last-edition → Room n (view p .settings)
+pub view-room : (n : ℕ) (p q : Parts) → Grow n (passphraseEdition p) (passphraseEdition q) → Room n (view p .settings) (view q .settings)
 unfolding view
-view-room n p h = store-room n (p .settings) h
+view-room n p q h = store-room n (p .settings) (q .settings) h
 
 pub run-sound : (r : Run) → Sound (leftByRun r)
 run-sound r =
@@ -83,8 +84,7 @@ two-states r s e ms t h k =
     let f = calls-follow ms w (view p) (view q)
     (record {
       like = without-like (view p) (view q) e;
-      left = view-room (setsToCome w ms) p (omega arith);
-      right = view-room (setsToCome w ms) q (omega arith);
+      room = view-room (setsToCome w ms) p q (inl (omega arith, omega arith));
     }) in
     (rw (a .0, b .0, ← c .0, ← d .0) (f .0), rw (a .1, b .1, ← c .1, ← d .1) (f .1))
 

@@ -18,7 +18,7 @@ use Rattle.supervisor_claims.specs.MixedCalls.{MixedCall, AllTypedMixed,
 use Rattle.supervisor_claims.specs.LastSet.{lookupMessage, SetAnswered}
 use Rattle.supervisor_claims.specs.TwoRuns.{Run, leftByRun, receivedInRun, SameButPassphrase, withoutPassphrase, passphraseEdition}
 use Rattle.supervisor_claims.specs.TwoRuns.{setsToCome, mixedSetsToCome}
-use Rattle.supervisor_claims.specs.Forgets.{StartForgets, SetUnseen}
+use Rattle.supervisor_claims.specs.Forgets.{StartForgets, SetLeaves, SetUnseen}
 use Rattle.supervisor_claims.specs.TwoPassphrases.{TwoPassphrases}
 use Rattle.saving_claims.specs.Item11.{SavedOmits, OtherKey31}
 use Rattle.supervisor_claims.specs.Item4.{ValueLengths}
@@ -69,15 +69,19 @@ pub record SupervisorItem14 : Type 0 where
   -- Then the same calls in the same order, with equal arguments and loans, return and write outside the state the same.
   -- They leave two such states.
   pub two-states : TwoStates
-  -- So where all bytes of the parts outside the passphrase's record are equal, and then of the line layer's calls on the reader's part too,
-  -- in any order with the supervisor's. All bytes outside the record stay equal.
+  -- So where all bytes of the parts outside the passphrase's record are equal; all bytes outside the record stay equal.
+  -- Then the line layer's calls on the reader's part may stand among the supervisor's, in any order.
   pub two-runs : TwoRuns
   -- an accepted start leaves nothing of what the parts held, within their published lengths
   pub start-forgets : StartForgets
+  -- The frame of a set of the passphrase, in any cuts, leaves zeros in all of the reader's part, whatever the table says of the set.
+  -- A value that is taken stands in the record with zeros behind it to the end.
+  pub set-leaves : SetLeaves
   -- the frame of a set of the passphrase, in any cuts, leaves nothing of its value outside the passphrase's record
   pub set-unseen : SetUnseen
-  -- Two runs from one start with the same calls, but for the frames of sets of the passphrase, with values of allowed lengths of their own,
-  -- each in cuts of its own: all other calls return and write outside the state the same.
+  -- Two runs from one start with the same calls, but for the frames of sets of the passphrase.
+  -- Those have values of allowed lengths of their own, and come in cuts of their own.
+  -- All other calls return and write outside the state the same.
   -- Whenever no such set is partly received, the parts are the same but for the passphrase's record.
   pub two-passphrases : TwoPassphrases
   -- the saved image omits key 6: it is that of keys 3, 4 and 5 alone

@@ -1,9 +1,9 @@
--- Two runs from one start with the same calls, but for the frames of sets of the wireless passphrase, with values of their own and in cuts
--- of their own (document 02, item 14). Assumes nothing: these are definitions and the statement.
+-- Two runs from one start with the same calls, but for the frames of sets of the wireless passphrase (document 02, item 14).
+-- Those have values of their own and come in cuts of their own. Assumes nothing: these are definitions and the statement.
 use mathlib.Core.Path.{_≡_}
-use mathlib.Core.Bool.{false, true, cond}
+use mathlib.Core.Bool.{false, true}
 use mathlib.Core.List.{List, [], _∷_, _++_}
-use Prim.Native.Nat.{ℕ, suc, _+_, _<_, max}
+use Prim.Native.Nat.{ℕ}
 use lib.ListN.{length}
 use Rattle.octets.specs.Bytes.{Each}
 use Rattle.line.specs.Message.{InRange, message}
@@ -15,8 +15,8 @@ use Rattle.supervisor_claims.specs.Histories
 use Rattle.supervisor_claims.specs.Histories.{Call, Typed, Made, made, FromStart}
 use Rattle.supervisor_claims.specs.FrameHistory.{bytesReceivedBy}
 use Rattle.supervisor_claims.specs.MixedCalls
-use Rattle.supervisor_claims.specs.MixedCalls.{MixedCall, TypedMixed, MixedOutput, madeMixed, mixedSince}
-use Rattle.supervisor_claims.specs.TwoRuns.{SameButPassphrase, setsBroughtBy, startsAnewBy}
+use Rattle.supervisor_claims.specs.MixedCalls.{MixedCall, TypedMixed, MixedOutput, madeMixed}
+use Rattle.supervisor_claims.specs.TwoRuns.{SameButPassphrase}
 use Rattle.supervisor_claims.specs.Forgets.{passphraseSet, isReceiving, NothingCome}
 
 -- ---- The calls of one run
@@ -53,13 +53,14 @@ otherCalls [] = []
 otherCalls (brings m ∷ xs) = otherCalls xs
 otherCalls (other c ∷ xs) = c ∷ otherCalls xs
 
--- a receive or a step; no start and no call of the line layer stands among them, local calls may
+-- a local call: no start, no receive and no step
 abbrev pub IsLocal : Call → Type 0
 IsLocal (Histories.start d) = ⊥
 IsLocal (Histories.receive image piece) = ⊥
 IsLocal (Histories.step image piece) = ⊥
 IsLocal (Histories.local c) = Unit {0}
 
+-- the same of a call of either: none of the line layer's
 abbrev pub LocalMixed : MixedCall → Type 0
 LocalMixed (MixedCalls.supervisor m) = IsLocal (m .call) × Typed (m .call)
 LocalMixed (MixedCalls.lineStart l) = ⊥
@@ -67,9 +68,11 @@ LocalMixed (MixedCalls.lineRead l piece) = ⊥
 LocalMixed (MixedCalls.lineTail l) = ⊥
 LocalMixed (MixedCalls.lineData l n) = ⊥
 
+-- a receive or a step
 abbrev pub Brings : Made → Type 0
 Brings m = (isReceiving (m .call) ≡ true) × Typed (m .call)
 
+-- while a set comes, its bytes come in receives and steps, and no other call than local ones stands among them
 abbrev pub WhileSet : RunCall → Type 0
 WhileSet (brings m) = Brings m
 WhileSet (other c) = LocalMixed c
@@ -108,36 +111,30 @@ abbrev pub TypedTurn : Turn → Type 0
 TypedTurn (same c) = TypedMixed c
 TypedTurn (sets version number x y) = TwoSets version number x y
 
-abbrev pub callsOfTurns : SetCalls → List RunCall
-callsOfTurns x = x .ahead ++ (brings (x .last) ∷ [])
+abbrev pub callsOfSet : SetCalls → List RunCall
+callsOfSet x = x .ahead ++ (brings (x .last) ∷ [])
 
 -- the calls of the first run, and of the second
 unfoldable pub firstRun : List Turn → List RunCall
 firstRun [] = []
 firstRun (same c ∷ ts) = other c ∷ firstRun ts
-firstRun (sets version number x y ∷ ts) = callsOfTurns x ++ firstRun ts
+firstRun (sets version number x y ∷ ts) = callsOfSet x ++ firstRun ts
 
 unfoldable pub secondRun : List Turn → List RunCall
 secondRun [] = []
 secondRun (same c ∷ ts) = other c ∷ secondRun ts
-secondRun (sets version number x y ∷ ts) = callsOfTurns y ++ secondRun ts
+secondRun (sets version number x y ∷ ts) = callsOfSet y ++ secondRun ts
 
 -- each set begins between frames; the first run's reader stands for both, since their parts are equal there
 abbrev pub BeginsBetween : Parts → List Turn → Type 0
 BeginsBetween p [] = Unit {0}
 BeginsBetween p (same c ∷ ts) = BeginsBetween (madeMixed p c .parts) ts
-BeginsBetween p (sets version number x y ∷ ts) = NothingCome p × BeginsBetween (leftByCalls p (callsOfTurns x)) ts
-
--- The most sets of the passphrase between two accepted starts: n came since the last one, and of the frame that is not ended the bytes
--- behind the last 00 of w. Behind a set nothing has come of a frame.
-unfoldable pub mostSets : ℕ → List ℕ → List Turn → ℕ
-mostSets n w [] = n
-mostSets n w (same c ∷ ts) = cond (startsAnewBy c) (max n (mostSets 0 [] ts)) (mostSets (n + setsBroughtBy w c) (mixedSince w c) ts)
-mostSets n w (sets version number x y ∷ ts) = mostSets (suc n) [] ts
+BeginsBetween p (sets version number x y ∷ ts) = NothingCome p × BeginsBetween (leftByCalls p (callsOfSet x)) ts
 
 -- The other calls answer and write outside the state the same. What is left behind the last of the turns is the same, byte for byte,
--- but for the passphrase's record. A list of turns may end anywhere, so this holds whenever no set is partly received in either run.
+-- but for the passphrase's record. The turns are any, so this holds behind each of them, whenever no set is partly received in either run.
+-- A turn is a whole set: of the calls among a set's bytes the outputs are those of the completed turn.
 abbrev pub TwoPassphrases : Type 0
-TwoPassphrases = FromStart (λ p d q. (ts : List Turn) → Each TypedTurn ts → BeginsBetween q ts → mostSets 0 [] ts < Limits.last-edition
+TwoPassphrases = FromStart (λ p d q. (ts : List Turn) → Each TypedTurn ts → BeginsBetween q ts
     → (otherOutputs q (firstRun ts) ≡ otherOutputs q (secondRun ts))
     × SameButPassphrase (leftByCalls q (firstRun ts)) (leftByCalls q (secondRun ts)))

@@ -114,14 +114,14 @@ by-tested P m f g =
     cond-by P (not (Requests.lengthAllowed (m .command) (length (m .payload)))) _ _ (λ _. f _ _ _) (λ _. g))))
 
 -- a set of the passphrase that is good: by its parts
-pub set-leaves : (image f : List ℕ) (i : Receive.Inner) (version number : ℕ) (v : List ℕ)
+pub set-carried : (image f : List ℕ) (i : Receive.Inner) (version number : ℕ) (v : List ℕ)
     → let k = Receive.storeBytes (i .settings) Limits.passphrase-key v in
     Receive.innerBy image f i (good (passphraseSet version number v))
     ≡ Receive.inner
     (Receive.sentBox (Receive.replyBytes (Receive.replyHead version number) 0x0c (bytes 1 (k .result))) (i .outbox)) (k .settings)
     (i .registers)
 unfolding Receive.innerBy Receive.carriedInner commandNumber Receive.commandLeaves Receive.keySetAnswered number
-set-leaves image f i version number v = rw (of-number Command.key-set)
+set-carried image f i version number v = rw (of-number Command.key-set)
 
 module _ (image f g : List ℕ) (i : Receive.Inner) (u : Part → List ℕ) (version number : ℕ) (v : List ℕ)
     (ol : Layout.outbox-length ≤ length (i .outbox)) (sl : Layout.settings-length ≤ length (i .settings)) where
@@ -141,8 +141,8 @@ module _ (image f g : List ℕ) (i : Receive.Inner) (u : Part → List ℕ) (ver
   set-grows =
       let n = Receive.storeBytes (i .settings) Limits.passphrase-key v .result in
       rw (
-        set-leaves [] g (more i) version number v,
-        set-leaves image f i version number v,
+        set-carried [] g (more i) version number v,
+        set-carried image f i version number v,
         passphrase-behind (i .settings) (u Part.settings) v sl,
         reply-behind (i .outbox) (u Part.outbox) (Receive.replyHead version number) 0x0c (bytes 1 n) ol (omega (arith, length-bytes 1 n)),
       )

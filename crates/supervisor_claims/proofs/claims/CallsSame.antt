@@ -156,17 +156,17 @@ module _ (p q : Parts) (e : SameButPassphrase p q) (l : Lent) where
           (outside-back (p .settings) (q .settings) (outside-of e) hp hq (x .settings) (y .settings) (outside-of f)
           (valid-long {p = x} (sx .valid) .settings) (valid-long {p = y} (sy .valid) .settings) (l Part.settings) (h .settings))
 
-      fed-back : (image bs : List ℕ) → Each Byte image → Each Byte bs → Room (setsInBytes (view p .received) bs) (view p .settings)
-          → Room (setsInBytes (view q .received) bs) (view q .settings)
+      fed-back : (image bs : List ℕ) → Each Byte image → Each Byte bs
+          → Room (setsInBytes (view p .received) bs) (view p .settings) (view q .settings)
           → SameButPassphrase (givenBack l p (Receive.feedBytes image (lentOf l p) bs))
           (givenBack l q (Receive.feedBytes image (lentOf l q) bs))
-      fed-back image bs i t a b =
+      fed-back image bs i t r =
           let x = lentOf l p in
           let y = lentOf l q in
           let sx = lent-sound l p h sp in
           let sy = lent-sound l q h sq in
           back-whole _ _
-          (fed-same image i bs t x y sx sy lent-same (rw (lent-view l p h (sp .valid)) a) (rw (lent-view l q h (sq .valid)) b))
+          (fed-same image i bs t x y sx sy lent-same (rw (lent-view l p h (sp .valid), lent-view l q h (sq .valid)) r))
           (fed-leaves image x bs i sx t .1) (fed-leaves image y bs i sy t .1)
 
       -- ---- a start
@@ -247,16 +247,15 @@ module _ (p q : Parts) (e : SameButPassphrase p q) (sp : Sound p) (sq : Sound q)
 
     -- lent enough
     enough-parts : (c : Call) → Typed c → isAcceptedStart c ≡ false → enough c l ≡ true
-        → Room (setsInBytes (view p .received) (pieceRead c)) (view p .settings)
-        → Room (setsInBytes (view q .received) (pieceRead c)) (view q .settings) → Leave c
+        → Room (setsInBytes (view p .received) (pieceRead c)) (view p .settings) (view q .settings) → Leave c
     unfolding made did pieceRead Receive.receivePromise Receive.stepPromise Receive.validStep
-    enough-parts (Histories.start d) t s h a b =
+    enough-parts (Histories.start d) t s h r =
         start-refused p q e l sp sq (widened-enough l p (valid-long {p = p} (sp .valid)) (Histories.start d) h) d (accepted-good d t ∙ s)
-    enough-parts (Histories.receive image piece) t s h a b =
+    enough-parts (Histories.receive image piece) t s h r =
         let k = widened-enough l p (valid-long {p = p} (sp .valid)) (Histories.receive image piece) h in
         rw (valid-parts (lentOf l p) (lent-sound l p k sp .valid), valid-parts (lentOf l q) (lent-sound l q k sq .valid))
-        (fed-back p q e l sp sq k image piece (t .0) (t .1) a b)
-    enough-parts (Histories.step image piece) t s h a b =
+        (fed-back p q e l sp sq k image piece (t .0) (t .1) r)
+    enough-parts (Histories.step image piece) t s h r =
         let k = widened-enough l p (valid-long {p = p} (sp .valid)) (Histories.step image piece) h in
         rw (
           valid-parts (lentOf l p) (lent-sound l p k sp .valid),
@@ -264,16 +263,15 @@ module _ (p q : Parts) (e : SameButPassphrase p q) (sp : Sound p) (sq : Sound q)
           step-fed image piece (lentOf l p),
           step-fed image piece (lentOf l q),
         )
-        (fed-back p q e l sp sq k image _ (t .0) (each-take Byte (upTo piece) piece (t .1)) a b)
-    enough-parts (Histories.local c) t s h a b = local-parts p q e l sp sq c h
+        (fed-back p q e l sp sq k image _ (t .0) (each-take Byte (upTo piece) piece (t .1)) r)
+    enough-parts (Histories.local c) t s h r = local-parts p q e l sp sq c h
 
   pub call-parts : (m : Made) → Typed (m .call) → startsAnew m ≡ false
-      → Room (setsInBytes (view p .received) (bytesReceivedBy m)) (view p .settings)
-      → Room (setsInBytes (view q .received) (bytesReceivedBy m)) (view q .settings)
+      → Room (setsInBytes (view p .received) (bytesReceivedBy m)) (view p .settings) (view q .settings)
       → SameButPassphrase (made p m .parts) (made q m .parts)
   unfolding startsAnew bytesReceivedBy
-  call-parts m t s a b = by (enough (m .call) (m .lent)) refl
+  call-parts m t s r = by (enough (m .call) (m .lent)) refl
     where
       by : (x : Bool) → enough (m .call) (m .lent) ≡ x → SameButPassphrase (made p m .parts) (made q m .parts)
-      by true f = enough-parts (m .lent) (m .call) t (rw f at s) f (rw f at a) (rw f at b)
+      by true f = enough-parts (m .lent) (m .call) t (rw f at s) f (rw f at r)
       by false f = rw (made-12 p m f, made-12 q m f) e

@@ -1,6 +1,6 @@
 -- Parts that are the same but for the passphrase's record: received bytes leave such parts.
 -- Assumes nothing.
-use mathlib.Core.Path.{_≡_, refl, sym, ap, _∙_}
+use mathlib.Core.Path.{_≡_, refl, sym, ap, subst, _∙_}
 use mathlib.Core.Bool.{Bool, true, false, cond}
 use mathlib.Core.List.{List, [], _∷_, _++_, append-nil}
 use mathlib.Core.Option.{Option, none, some}
@@ -35,15 +35,16 @@ use Rattle.supervisor_claims.specs.View.{settingOf, view}
 use Rattle.supervisor_claims.specs.Sound.{Sound}
 use Rattle.supervisor_claims.specs.FrameHistory.{framesClosedBy, frameVerdict}
 use Rattle.supervisor_claims.specs.LastSet.{requestAhead, requestsIn, valueFor, setBy, listedIf, setsOf}
-use Rattle.supervisor_claims.specs.TwoRuns.{record-begin, SameButPassphrase}
+use Rattle.supervisor_claims.specs.TwoRuns.{record-begin, SameButPassphrase, passphraseEdition}
 use Rattle.supervisor_claims.proofs.Sound.{valid-long}
 use Rattle.supervisor_claims.proofs.laws.AlikeLaws.{lookup-same, edition-same}
 use Rattle.supervisor_claims.proofs.laws.SettingLaws.{setting-is}
 use Rattle.supervisor_claims.proofs.calls.LookupClaim.{lookup-meant, edition-meant}
 use Rattle.supervisor_claims.proofs.calls.ReceiveClaim.{feed-leaves}
 use Rattle.supervisor_claims.proofs.claims.FramesClaim.{closed-verdict}
-use Rattle.supervisor_claims.proofs.claims.TwoRunLaws.{Like, Room, room-less, passphrase, setCount, count-ahead, judged-room}
-use Rattle.supervisor_claims.proofs.claims.OutsideLaws.{Outside, SameStored, wrongLength, other-stored, passphrase-stored}
+use Rattle.supervisor_claims.proofs.claims.TwoRunLaws.{Like, Grow, grow-less, grow-last, Room, room-less, passphrase, setCount}
+use Rattle.supervisor_claims.proofs.claims.TwoRunLaws.{count-ahead, judged-room}
+use Rattle.supervisor_claims.proofs.claims.OutsideLaws.{Outside, SameStored, wrongLength, atLast, other-stored, passphrase-stored}
 use Rattle.supervisor_claims.proofs.TwoRuns.{same-states, without-like}
 
 -- ---- what a request leaves
@@ -81,34 +82,34 @@ module _ (image f o r s t : List ℕ) (u : Outside s t) (version sequence : ℕ)
   command-same Command.key-set k =
       let z = k refl in record { outbox = rw (z .result); outside = z .outside; registers = refl }
 
--- the passphrase's edition can grow by n, by the bytes of the store
-abbrev pub Below : ℕ → List ℕ → Type 0
-Below n s = Layout.settingEdition s record-begin + n ≤ Limits.last-edition
+-- the passphrase's editions, by the bytes of two stores
+abbrev StoresGrow : ℕ → List ℕ → List ℕ → Type 0
+StoresGrow n s t = Grow n (Layout.settingEdition s record-begin) (Layout.settingEdition t record-begin)
 
 -- by a key set's data
 data-stored : (s t : List ℕ) → Outside s t → Layout.settings-length ≤ length s → Layout.settings-length ≤ length t → (bs : List ℕ)
-    → let n = length (listedIf (valueFor Limits.passphrase-key bs)) in Below n s → Below n t
+    → StoresGrow (length (listedIf (valueFor Limits.passphrase-key bs))) s t
     → SameStored (Receive.storeBytes s (numberAt 1 bs 0) (drop 1 bs)) (Receive.storeBytes t (numberAt 1 bs 0) (drop 1 bs))
 unfolding number valueFor
-data-stored s t o hs ht [] a b = other-stored s t [] o hs ht 0 (λ e. omega (arith, e))
-data-stored s t o hs ht (key ∷ v) a b = rw add-zero (by (eqb key Limits.passphrase-key) refl)
+data-stored s t o hs ht [] g = other-stored s t [] o hs ht 0 (λ e. omega (arith, e))
+data-stored s t o hs ht (key ∷ v) r = rw add-zero (by (eqb key Limits.passphrase-key) refl)
   where
-    low : eqb key Limits.passphrase-key ≡ true → wrongLength v ≡ false → (x : List ℕ)
-        → Below (length (listedIf (valueFor Limits.passphrase-key (key ∷ v)))) x
-        → Layout.settingEdition x record-begin < Limits.last-edition
-    low f g x r = let l = rw (f, g) at r in omega arith
+    both : eqb key Limits.passphrase-key ≡ true → wrongLength v ≡ false → atLast s ≡ atLast t
+    both f g = grow-last (omega arith) (rw (f, g) at r)
 
     by : (t' : Bool) → eqb key Limits.passphrase-key ≡ t' → SameStored (Receive.storeBytes s key v) (Receive.storeBytes t key v)
     by true f =
         rw (eqb-true key Limits.passphrase-key f)
-        (passphrase-stored s t v v hs ht o refl (λ g. (low f g s a, low f g t b)))
+        (passphrase-stored s t v v hs ht o refl (both f))
     by false f = other-stored s t v o hs ht key (eqb-false key Limits.passphrase-key f)
 
 -- ---- two such parts
 
-pub below-of : (n : ℕ) (p : Parts) → Room n (view p .settings) → Below n (p .settings)
+pub grow-of : (n : ℕ) (p q : Parts) → Room n (view p .settings) (view q .settings) → Grow n (passphraseEdition p) (passphraseEdition q)
 unfolding view settingOf
-below-of n p r = rw (setting-is (p .settings) Limits.passphrase-key passphrase) at (r .low)
+grow-of n p q r =
+    rw (setting-is (p .settings) Limits.passphrase-key passphrase, setting-is (q .settings) Limits.passphrase-key passphrase)
+    at (r .grow)
 
 pub outside-of : {p q : Parts} → SameButPassphrase p q → Outside (p .settings) (q .settings)
 outside-of e = record { ahead = e .ahead; behind = e .behind }
@@ -136,10 +137,9 @@ module _ (x y : Parts) (sx : Sound x) (sy : Sound y) (e : SameButPassphrase x y)
     Both v =
         SameInner (Receive.innerBy image (x .factory) (Receive.innerOf x) v) (Receive.innerBy image (y .factory) (Receive.innerOf y) v)
 
-    good-same : (m : Message) → let n = length (listedIf (setBy Limits.passphrase-key m)) in
-        Below n (x .settings) → Below n (y .settings) → Both (good m)
+    good-same : (m : Message) → StoresGrow (length (listedIf (setBy Limits.passphrase-key m))) (x .settings) (y .settings) → Both (good m)
     unfolding Receive.innerBy Receive.carriedInner setBy commandNumber
-    good-same m a b = rw (e .factory, e .outbox, e .registers) (by (commandOfNumber (m .command)) refl)
+    good-same m g = rw (e .factory, e .outbox, e .registers) (by (commandOfNumber (m .command)) refl)
       where
         f : List ℕ
         f = y .factory
@@ -152,7 +152,7 @@ module _ (x y : Parts) (sx : Sound x) (sy : Sound y) (e : SameButPassphrase x y)
             (Receive.storeBytes (y .settings) (numberAt 1 d 0) (drop 1 d))
         stored c =
             data-stored (x .settings) (y .settings) (outside-of e) (valid-long {p = x} (sx .valid) .settings)
-            (valid-long {p = y} (sy .valid) .settings) d (rw c at a) (rw c at b)
+            (valid-long {p = y} (sy .valid) .settings) d (rw c at g)
 
         by : (c : Option Command) → commandOfNumber (m .command) ≡ c
             → SameInner
@@ -163,13 +163,12 @@ module _ (x y : Parts) (sx : Sound x) (sy : Sound y) (e : SameButPassphrase x y)
             command-same image f (y .outbox) (y .registers) (x .settings) (y .settings) (outside-of e) (m .version) (m .sequence) d
             (rw (e .factory) at (value-same (m .version) d)) c (λ k. stored (number-is (m .command) g ∙ ap commandNumber k))
 
-    judged-same : (v : Verdict) → Below (setCount (requestAhead v [])) (x .settings) → Below (setCount (requestAhead v [])) (y .settings)
-        → Both v
+    judged-same : (v : Verdict) → StoresGrow (setCount (requestAhead v [])) (x .settings) (y .settings) → Both v
     unfolding Receive.innerBy Receive.replyAlone setsOf
-    judged-same (failure reason version sequence) a b =
+    judged-same (failure reason version sequence) g =
         record { outbox = rw (e .outbox); outside = outside-of e; registers = e .registers }
-    judged-same (good m) a b =
-        let n = length-append (listedIf (setBy Limits.passphrase-key m)) [] in good-same m (omega arith) (omega arith)
+    judged-same (good m) g =
+        let n = length-append (listedIf (setBy Limits.passphrase-key m)) [] in good-same m (grow-less (omega arith) g)
 
 -- ---- sets in received bytes, of which these have come of the first frame
 
@@ -214,42 +213,41 @@ module _ (image : List ℕ) (i : Each Byte image) where
   closed-anew x s = closed-received (x .reader) (s .valid .reader)
 
   -- the sets in the bytes behind a byte
-  fed-room : (n : ℕ) (x : Parts) → Sound x → (b : ℕ) → b < 256 → (bs : List ℕ)
-      → Room (setsInBytes (view x .received) (b ∷ bs) + n) (view x .settings)
-      → Room (setsInBytes (view (Receive.feedByte image x b) .received) bs + n) (view (Receive.feedByte image x b) .settings)
+  fed-room : (x y : Parts) → Sound x → Sound y → view x .received ≡ view y .received → (b : ℕ) → b < 256 → (bs : List ℕ)
+      → Room (setsInBytes (view x .received) (b ∷ bs)) (view x .settings) (view y .settings)
+      → Room (setsInBytes (view (Receive.feedByte image x b) .received) bs) (view (Receive.feedByte image x b) .settings)
+      (view (Receive.feedByte image y b) .settings)
   unfolding setsInBytes Requests.receiveByte Requests.closed
-  fed-room n x s zero h bs r =
-      rw (closed-anew x s, feed-leaves image x 0 i s h .0) (by (verdictSince (view x .received)) r)
+  fed-room x y sx sy e zero h bs r =
+      rw (closed-anew x sx, feed-leaves image x 0 i sx h .0, feed-leaves image y 0 i sy h .0)
+      (subst (λ (o : Option (List ℕ)). Room (setsInBytes (some []) bs)
+      (Requests.afterSomeVerdict image (view x) (verdictSince (view x .received)) .settings)
+      (Requests.afterSomeVerdict image (view y) (verdictSince o) .settings)) e (by (verdictSince (view x .received)) r))
     where
-      by : (o : Option Verdict) → Room (setsAt o + setsInBytes (some []) bs + n) (view x .settings)
-          → Room (setsInBytes (some []) bs + n) (Requests.afterSomeVerdict image (view x) o .settings)
+      by : (o : Option Verdict) → Room (setsAt o + setsInBytes (some []) bs) (view x .settings) (view y .settings)
+          → Room (setsInBytes (some []) bs) (Requests.afterSomeVerdict image (view x) o .settings)
+          (Requests.afterSomeVerdict image (view y) o .settings)
       by none q = room-less (omega arith) q
       by (some v) q =
-          judged-room image v (setsInBytes (some []) bs + n) (withReceived (view x) (some [])) (room-less (omega arith) q)
-  fed-room n x s (suc b) h bs r = rw (feed-leaves image x (suc b) i s h .0, eqb·suc-zero) (rw eqb·suc-zero at r)
-
-  pub fed-rooms : (n : ℕ) (bs : List ℕ) → Each Byte bs → (x : Parts) → Sound x
-      → Room (setsInBytes (view x .received) bs + n) (view x .settings) → Room n (view (Receive.feedBytes image x bs) .settings)
-  unfolding Receive.feedBytes
-  fed-rooms n [] h x s r = room-less (omega arith) r
-  fed-rooms n (b ∷ bs) h x s r =
-      fed-rooms n bs (h .1) (Receive.feedByte image x b) (feed-leaves image x b i s (h .0) .1) (fed-room n x s b (h .0) bs r)
+          judged-room image v (setsInBytes (some []) bs) (withReceived (view x) (some [])) (withReceived (view y) (some [])) q
+  fed-room x y sx sy e (suc b) h bs r =
+      rw (feed-leaves image x (suc b) i sx h .0, feed-leaves image y (suc b) i sy h .0, eqb·suc-zero) (rw eqb·suc-zero at r)
 
   module _ (x y : Parts) (sx : Sound x) (sy : Sound y) (e : SameButPassphrase x y) where
-    after-same : (o : Option Verdict) → Below (setsAt o) (x .settings) → Below (setsAt o) (y .settings)
+    after-same : (o : Option Verdict) → StoresGrow (setsAt o) (x .settings) (y .settings)
         → SameInner (Receive.innerAfter image (x .factory) (Receive.innerOf x) o)
         (Receive.innerAfter image (y .factory) (Receive.innerOf y) o)
     unfolding Receive.innerAfter
-    after-same none a b = record { outbox = e .outbox; outside = outside-of e; registers = e .registers }
-    after-same (some v) a b = judged-same x y sx sy e image v a b
+    after-same none g = record { outbox = e .outbox; outside = outside-of e; registers = e .registers }
+    after-same (some v) g = judged-same x y sx sy e image v g
 
-    closed-same : let o = verdictSince (receivedOf (x .reader)) in Below (setsAt o) (x .settings) → Below (setsAt o) (y .settings)
+    closed-same : StoresGrow (setsAt (verdictSince (receivedOf (x .reader)))) (x .settings) (y .settings)
         → SameButPassphrase (Receive.feedByte image x 0) (Receive.feedByte image y 0)
     unfolding Receive.feedByte Receive.afterAnswer
-    closed-same a b =
+    closed-same g =
         let fx = finished-verdict (x .reader) (sx .valid .reader) in
         let fy = finished-verdict (y .reader) (sy .valid .reader) ∙ ap (λ (r : List ℕ). verdictSince (receivedOf r)) (sym (e .reader)) in
-        let k = after-same _ a b in
+        let k = after-same _ g in
         rw (fx, fy)
         (record {
           reader = ap readerClosed (e .reader);
@@ -273,24 +271,18 @@ module _ (image : List ℕ) (i : Each Byte image) where
           registers = e .registers;
         })
 
-    byte-same : (b : ℕ) (bs : List ℕ) → Room (setsInBytes (view x .received) (b ∷ bs)) (view x .settings)
-        → Room (setsInBytes (view y .received) (b ∷ bs)) (view y .settings)
+    byte-same : (b : ℕ) (bs : List ℕ) → Room (setsInBytes (view x .received) (b ∷ bs)) (view x .settings) (view y .settings)
         → SameButPassphrase (Receive.feedByte image x b) (Receive.feedByte image y b)
     unfolding setsInBytes view
-    byte-same zero bs a b =
-        let o = setsAt (verdictSince (receivedOf (x .reader))) in
-        let c = below-of _ x a in
-        let d = below-of _ y (rw (sym (e .reader)) at b) in
-        closed-same (omega arith) (omega arith)
-    byte-same (suc n) bs a b = pushed-same n
+    byte-same zero bs r = closed-same (grow-less (omega arith) (grow-of _ x y r))
+    byte-same (suc n) bs r = pushed-same n
 
   pub fed-same : (bs : List ℕ) → Each Byte bs → (x y : Parts) → Sound x → Sound y → SameButPassphrase x y
-      → Room (setsInBytes (view x .received) bs) (view x .settings) → Room (setsInBytes (view y .received) bs) (view y .settings)
+      → Room (setsInBytes (view x .received) bs) (view x .settings) (view y .settings)
       → SameButPassphrase (Receive.feedBytes image x bs) (Receive.feedBytes image y bs)
-  unfolding Receive.feedBytes
-  fed-same [] h x y sx sy e a b = e
-  fed-same (n ∷ bs) h x y sx sy e a b =
+  unfolding view Receive.feedBytes
+  fed-same [] h x y sx sy e r = e
+  fed-same (n ∷ bs) h x y sx sy e r =
       fed-same bs (h .1) (Receive.feedByte image x n) (Receive.feedByte image y n) (feed-leaves image x n i sx (h .0) .1)
-      (feed-leaves image y n i sy (h .0) .1) (byte-same x y sx sy e n bs a b)
-      (room-less (omega arith) (fed-room 0 x sx n (h .0) bs (room-less (omega arith) a)))
-      (room-less (omega arith) (fed-room 0 y sy n (h .0) bs (room-less (omega arith) b)))
+      (feed-leaves image y n i sy (h .0) .1) (byte-same x y sx sy e n bs r)
+      (fed-room x y sx sy (ap receivedOf (e .reader)) n (h .0) bs r)

@@ -2,19 +2,19 @@
 -- is stored, where an image is restored, and through a loan. Assumes nothing.
 use mathlib.Core.Path.{_≡_, refl, sym, ap, _∙_}
 use mathlib.Core.Logic.{inl, inr}
-use mathlib.Core.Bool.{Bool, true, false, false≢true}
-use mathlib.Core.List.{List, [], _∷_}
+use mathlib.Core.Bool.{Bool, true, false, false≢true, cond}
+use mathlib.Core.List.{List, [], _∷_, _++_}
 use Prim.Native.Nat.{ℕ, zero, suc, _+_, _-_, _≤_, _<_}
 use native.Mathlib.Omega.{arith}
 use lib.Dec.{ltb, eqb}
 use lib.ListN.{length, take, drop, replicate}
-use lib.Seq.{drop-drop, take-take, take-add, take-append-le, drop-append-le, drop-at, length-take-le}
+use lib.Seq.{drop-drop, take-take, take-add, take-length, take-append-le, drop-append-le, drop-at, length-take-le}
 use borrow.Author.Tests.{leb-true, ltb-false, ne-eqb}
-use Rattle.octets.specs.Bytes.{Each, overlay}
+use Rattle.octets.specs.Bytes.{Each, bytes, number, run, overlay}
 use Rattle.octets.proofs.Conditions.{cond-both}
-use Rattle.octets.proofs.Overlay.{length-overlay, overlay-take, overlay-drop, overlay-take-past}
+use Rattle.octets.proofs.Overlay.{run-add, length-overlay, overlay-take, overlay-drop, overlay-part, overlay-after, overlay-take-past}
 use Rattle.octets.proofs.SameBytes.{same-first, number-same}
-use Rattle.octets.proofs.Zeros.{zeros, length-zeros}
+use Rattle.octets.proofs.Zeros.{zeros, zeros-add, length-zeros}
 use Rattle.line_claims.specs.Loans.{Loan, first, within, lentPart, backPart, enoughPart}
 use Rattle.supervisor.specs.Limits
 use Rattle.supervisor.specs.Limits.{SettingsKey}
@@ -27,7 +27,7 @@ use Rattle.saving.specs.Calls as SavingCalls
 use Rattle.saving.proofs.KeptLaws.{Allowed, entries-allowed, entry-valid, cleared-valid}
 use Rattle.responder.specs.Requests
 use Rattle.responder.specs.Receive
-use Rattle.responder.proofs.KeptLaws.{length-setting, cleared-most}
+use Rattle.responder.proofs.KeptLaws.{length-setting, setting-value, cleared-most}
 use Rattle.responder.proofs.RecordLaws.{length-right}
 use Rattle.supervisor_claims.specs.TwoRuns.{record-begin, record-end}
 
@@ -157,6 +157,11 @@ module _ (s t v : List ℕ) (o : Outside s t) (hs : Layout.settings-length ≤ l
 
 -- ---- the passphrase
 
+zeros-run : (n k : ℕ) → run n k (zeros (n + k)) ≡ zeros k
+zeros-run n k =
+    rw (← zeros-add n k, drop-at (zeros n) (zeros k) n (length-zeros n))
+    (ap (λ i. take i (zeros k)) (sym (length-zeros k)) ∙ take-length (zeros k))
+
 module _ (s v : List ℕ) (at longest cleared : ℕ) (room : at + (Layout.setting-value-offset + longest) ≤ length s)
     (short : length v ≤ longest) (most : cleared ≤ longest) where
   abbrev wiped : List ℕ
@@ -181,18 +186,53 @@ module _ (s v : List ℕ) (at longest cleared : ℕ) (room : at + (Layout.settin
       overlay-drop at end (Layout.settingBytes n v) wiped (omega (arith, wiped-long)) (omega (arith, length-setting n v))
       ∙ overlay-drop (at + Layout.setting-value-offset) end (zeros cleared) s (omega arith) (omega (arith, length-zeros cleared))
 
+  -- one edition on
+  value-edition : Layout.settingEdition (Receive.withValue s at cleared v) at ≡ number (bytes 4 (suc (Layout.settingEdition s at)))
+  unfolding Receive.withValue bytes
+  value-edition =
+      let n = suc (Layout.settingEdition s at) in
+      ap number (overlay-part at Layout.setting-edition-offset 4 (Layout.settingBytes n v) wiped (omega (arith, wiped-long))
+      (omega (arith, length-setting n v)))
+
+  -- where all of its place is wiped first, the value stands in it with zeros behind
+  module _ (e : cleared ≡ longest) where
+    abbrev here : ℕ
+    here = at + Layout.setting-value-offset
+
+    abbrev rest : ℕ
+    rest = longest - length v
+
+    zeros-behind : run (here + length v) rest (Receive.withValue s at cleared v) ≡ zeros rest
+    unfolding Receive.withValue
+    zeros-behind =
+        let n = suc (Layout.settingEdition s at) in
+        let all : cleared ≡ length v + rest = omega arith in
+        let l = length-zeros cleared in
+        overlay-after at (here + length v) rest (Layout.settingBytes n v) wiped (omega (arith, wiped-long))
+        (omega (arith, length-setting n v))
+        ∙ overlay-part here (length v) rest (zeros cleared) s (omega arith) (omega arith)
+        ∙ ap (λ i. run (length v) rest (zeros i)) all ∙ zeros-run (length v) rest
+
+    value-placed : run here longest (Receive.withValue s at cleared v) ≡ v ++ zeros rest
+    value-placed =
+        let stored = Receive.withValue s at cleared v in
+        let whole : longest ≡ length v + rest = omega arith in
+        ap (λ i. run here i stored) whole ∙ run-add here (length v) rest stored
+        ∙ rw (setting-value s v at longest cleared room short most, zeros-behind)
+
 abbrev pub wrongLength : List ℕ → Bool
 wrongLength v = Requests.wrongValueLength Limits.passphrase-key (length v)
 
--- values of their own, both of allowed length or neither; where they are, the editions are below the last
+abbrev pub atLast : List ℕ → Bool
+atLast s = eqb (Layout.settingEdition s record-begin) Limits.last-edition
+
+-- values of their own, both of allowed length or neither; where they are, both editions are the last or neither
 pub passphrase-stored : (s t v w : List ℕ) → Layout.settings-length ≤ length s → Layout.settings-length ≤ length t → Outside s t
     → wrongLength v ≡ wrongLength w
-    → (wrongLength w ≡ false
-    → (Layout.settingEdition s record-begin < Limits.last-edition) × (Layout.settingEdition t record-begin < Limits.last-edition))
+    → (wrongLength w ≡ false → atLast s ≡ atLast t)
     → SameStored (Receive.storeBytes s Limits.passphrase-key v) (Receive.storeBytes t Limits.passphrase-key w)
 unfolding Receive.storeBytes Receive.storeBytesAt
 passphrase-stored s t v w hs ht o e low =
-    let last = Limits.last-edition in
     rw e
     (cond-both SameStored (wrongLength w) (λ _. same-kept 3 o) (λ f.
     let k = record-last in
@@ -201,11 +241,8 @@ passphrase-stored s t v w hs ht o e low =
     let most = Limits.longest-setting Limits.passphrase-key in
     let nv = length-right (Limits.shortest-setting Limits.passphrase-key) most (length v) (e ∙ f) .1 in
     let nw = length-right (Limits.shortest-setting Limits.passphrase-key) most (length w) f .1 in
-    rw (
-      ne-eqb (Layout.settingEdition s record-begin) last (λ z. omega (arith, z, low f .0)),
-      ne-eqb (Layout.settingEdition t record-begin) last (λ z. omega (arith, z, low f .1)),
-    )
-    (same-kept 0
+    rw (low f)
+    (cond-both SameStored (atLast t) (λ _. same-kept 4 o) (λ _. same-kept 0
     (record {
       ahead =
           value-ahead s v record-begin most n (omega arith) nv c ∙ o .ahead
@@ -213,7 +250,50 @@ passphrase-stored s t v w hs ht o e low =
       behind =
           value-beyond s v record-begin most n (omega arith) nv c ∙ o .behind
           ∙ sym (value-beyond t w record-begin most n (omega arith) nw c);
-    }))))
+    })))))
+
+-- the edition behind it, by the one before
+abbrev onceMore : ℕ → ℕ
+onceMore n = cond (eqb n Limits.last-edition) n (number (bytes 4 (suc n)))
+
+stored-edition : (s v : List ℕ) → Layout.settings-length ≤ length s → let n = Layout.settingEdition s record-begin in
+    Layout.settingEdition (Receive.storeBytes s Limits.passphrase-key v .settings) record-begin ≡ cond (wrongLength v) n (onceMore n)
+unfolding Receive.storeBytes Receive.storeBytesAt
+stored-edition s v h =
+    let P : Receive.KeyStored → ℕ → Type 0 = λ j n. Layout.settingEdition (j .settings) record-begin ≡ n in
+    cond-both P (wrongLength v) (λ _. refl) (λ f.
+    cond-both P (atLast s) (λ _. refl) (λ _.
+    let k = record-last in
+    let most = Limits.longest-setting Limits.passphrase-key in
+    value-edition s v record-begin most (Receive.clearedFor Limits.passphrase-key) (omega arith)
+    (length-right (Limits.shortest-setting Limits.passphrase-key) most (length v) f .1) (cleared-most Limits.passphrase-key)))
+
+-- equal editions stay equal
+pub passphrase-editions : (s t v w : List ℕ) → Layout.settings-length ≤ length s → Layout.settings-length ≤ length t
+    → wrongLength v ≡ wrongLength w → Layout.settingEdition s record-begin ≡ Layout.settingEdition t record-begin
+    → Layout.settingEdition (Receive.storeBytes s Limits.passphrase-key v .settings) record-begin
+    ≡ Layout.settingEdition (Receive.storeBytes t Limits.passphrase-key w .settings) record-begin
+passphrase-editions s t v w hs ht e d =
+    let n = Layout.settingEdition s record-begin in
+    stored-edition s v hs ∙ ap (λ (b : Bool). cond b n (onceMore n)) e
+    ∙ ap (λ (k : ℕ). cond (wrongLength w) k (onceMore k)) d ∙ sym (stored-edition t w ht)
+
+-- what a stored passphrase leaves in its place, all of which is wiped
+all-cleared : Receive.clearedFor Limits.passphrase-key ≡ Limits.longest-setting Limits.passphrase-key
+unfolding Receive.clearedFor
+all-cleared = refl
+
+pub passphrase-placed : (s v : List ℕ) → Layout.settings-length ≤ length s → wrongLength v ≡ false
+    → Layout.settingEdition s record-begin < Limits.last-edition
+    → let n = Limits.longest-setting Limits.passphrase-key in
+    run (record-begin + Layout.setting-value-offset) n (Receive.storeBytes s Limits.passphrase-key v .settings) ≡ v ++ zeros (n - length v)
+unfolding Receive.storeBytes Receive.storeBytesAt
+passphrase-placed s v h e low =
+    let k = record-last in
+    let n = Limits.longest-setting Limits.passphrase-key in
+    rw (e, ne-eqb (Layout.settingEdition s record-begin) Limits.last-edition (λ f. omega (arith, f)))
+    (value-placed s v record-begin n (Receive.clearedFor Limits.passphrase-key) (omega arith)
+    (length-right (Limits.shortest-setting Limits.passphrase-key) n (length v) e .1) (cleared-most Limits.passphrase-key) all-cleared)
 
 -- ---- an image that is restored
 

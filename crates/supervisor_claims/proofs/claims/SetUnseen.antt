@@ -1,6 +1,7 @@
--- A set of the passphrase, in any cuts, leaves nothing of its value outside its record.
+-- A set of the passphrase, in any cuts, leaves nothing of its value outside its record, and nothing behind it there.
 -- Assumes nothing.
 use mathlib.Core.Path.{_≡_, refl, sym, ap, subst, _∙_}
+use mathlib.Core.Logic.{inl}
 use mathlib.Core.Bool.{Bool, true, false, false≢true, not}
 use mathlib.Core.List.{List, [], _∷_, _++_, append-nil}
 use mathlib.Core.Option.{Option, none, some}
@@ -8,8 +9,8 @@ use Prim.Native.Nat.{ℕ, zero, suc, _≤_, _<_}
 use native.Mathlib.Omega.{arith}
 use lib.Dec.{leb, eqb·suc-zero}
 use lib.ListN.{length, take, drop, take-append-drop, drop-of-length-le}
-use lib.Seq.{append-snoc, length-take-le}
-use borrow.Author.Tests.{le-leb}
+use lib.Seq.{append-snoc, take-at, length-take-le}
+use borrow.Author.Tests.{le-leb, lt-leb}
 use Rattle.octets.specs.Bytes as Bytes
 use Rattle.octets.specs.Bytes.{Byte, Each, overlay}
 use Rattle.octets.proofs.Conditions.{cond-both}
@@ -32,7 +33,6 @@ use Rattle.line.proofs.Lent.{received-append, valid-append, fresh-append, pushe
 use Rattle.line_claims.proofs.CobsClaims.{above-zero}
 use Rattle.line_claims.proofs.JudgeClaim.{judge-of-message}
 use Rattle.line_claims.proofs.LoanLaws.{front}
-use Rattle.supervisor.specs.Limits
 use Rattle.supervisor.specs.Layout
 use Rattle.supervisor.specs.Calls.{Parts}
 use Rattle.responder.specs.Commands.{Command, commandNumber, lengthRight}
@@ -48,16 +48,18 @@ use Rattle.supervisor_claims.specs.Histories.{Call, Typed, did, Lent, le
 use Rattle.supervisor_claims.specs.Histories.{made, left, AllTyped}
 use Rattle.supervisor_claims.specs.FrameHistory.{pieceRead, bytesReceivedBy}
 use Rattle.supervisor_claims.specs.TwoRuns.{record-begin, SameButPassphrase, passphraseEdition, leftByRun}
-use Rattle.supervisor_claims.specs.Forgets.{passphraseSet, isReceiving, bytesReceived, Receives, NothingCome, SetUnseen}
+use Rattle.supervisor_claims.specs.Forgets.{passphraseSet, isReceiving, bytesReceived, Receives, NothingCome, SetLeaves, SetUnseen}
 use Rattle.supervisor_claims.proofs.ByPart.{of, parts-same}
 use Rattle.supervisor_claims.proofs.Sound.{valid-long}
 use Rattle.supervisor_claims.proofs.laws.Locality.{EnoughOfAll, lent-part, lent-sound}
 use Rattle.supervisor_claims.proofs.calls.StepClaim.{step-fed}
 use Rattle.supervisor_claims.proofs.claims.LentCalls.{valid-parts, made-12, widened-enough}
 use Rattle.supervisor_claims.proofs.claims.History.{one-call}
-use Rattle.supervisor_claims.proofs.claims.OutsideLaws.{wrongLength, passphrase-stored}
+use Rattle.supervisor_claims.proofs.claims.TwoRunLaws.{Grow, grow-last}
+use Rattle.supervisor_claims.proofs.claims.OutsideLaws.{wrongLength, atLast, passphrase-stored, passphrase-editions}
+use Rattle.supervisor_claims.proofs.claims.OutsideLaws.{passphrase-placed}
 use Rattle.supervisor_claims.proofs.claims.FedSame.{SameInner, outside-of}
-use Rattle.supervisor_claims.proofs.claims.BehindLaws.{behind, Sets, Harmless, fed-behind, set-leaves}
+use Rattle.supervisor_claims.proofs.claims.BehindLaws.{behind, Sets, Harmless, fed-behind, set-carried}
 use Rattle.supervisor_claims.proofs.TwoRuns.{run-sound}
 
 -- ---- one call
@@ -321,42 +323,88 @@ module _ (f : List ℕ) (i j : Receive.Inner) (e : SameInner i j) where
       record { outbox = ap (Receive.sentBox _) (e .outbox); outside = e .outside; registers = e .registers }
 
   module _ (version number : ℕ) (v w : List ℕ) (si : Layout.settings-length ≤ length (i .settings))
-      (sj : Layout.settings-length ≤ length (j .settings)) (li : Layout.settingEdition (i .settings) record-begin < Limits.last-edition)
-      (lj : Layout.settingEdition (j .settings) record-begin < Limits.last-edition) (l : wrongLength v ≡ wrongLength w) where
+      (sj : Layout.settings-length ≤ length (j .settings)) (l : wrongLength v ≡ wrongLength w) where
     abbrev Both : Verdict → Verdict → Type 0
     Both x y = SameInner (Receive.innerBy [] f i x) (Receive.innerBy [] f j y)
 
-    good-same : Both (good (passphraseSet version number v)) (good (passphraseSet version number w))
-    good-same =
-        let k = passphrase-stored (i .settings) (j .settings) v w si sj (e .outside) l (λ _. (li, lj)) in
-        rw (set-leaves [] f i version number v, set-leaves [] f j version number w)
+    good-same : atLast (i .settings) ≡ atLast (j .settings)
+        → Both (good (passphraseSet version number v)) (good (passphraseSet version number w))
+    good-same a =
+        let k = passphrase-stored (i .settings) (j .settings) v w si sj (e .outside) l (λ _. a) in
+        rw (set-carried [] f i version number v, set-carried [] f j version number w)
         (record { outbox = rw (k .result, e .outbox); outside = k .outside; registers = e .registers })
 
-    tested-same : Both (tested (passphraseSet version number v)) (tested (passphraseSet version number w))
-    tested-same = tested-both Both failure-same version number v w good-same
+    tested-same : atLast (i .settings) ≡ atLast (j .settings)
+        → Both (tested (passphraseSet version number v)) (tested (passphraseSet version number w))
+    tested-same a = tested-both Both failure-same version number v w (good-same a)
 
--- ---- the claim
+    abbrev Equal : Verdict → Verdict → Type 0
+    Equal x y =
+        Layout.settingEdition (Receive.innerBy [] f i x .settings) record-begin
+        ≡ Layout.settingEdition (Receive.innerBy [] f j y .settings) record-begin
+
+    tested-equal : Layout.settingEdition (i .settings) record-begin ≡ Layout.settingEdition (j .settings) record-begin
+        → Equal (tested (passphraseSet version number v)) (tested (passphraseSet version number w))
+    unfolding Receive.innerBy Receive.replyAlone
+    tested-equal d =
+        tested-both Equal (λ _ _ _. d) version number v w
+        (rw (set-carried [] f i version number v, set-carried [] f j version number w)
+        (passphrase-editions (i .settings) (j .settings) v w si sj l d))
+
+-- it is good where version and number are
+tested-good : (version number : ℕ) (v : List ℕ) → Requests.versionServed version ≡ true → number < top-bit
+    → tested (passphraseSet version number v) ≡ good (passphraseSet version number v)
+unfolding tested Requests.known commandNumber
+tested-good version number v s n = rw (s, lt-leb top-bit number n, of-number Command.key-set, allowed-some (length v))
+
+-- ---- the claims
+
+pub set-leaves : SetLeaves
+unfolding cleared
+set-leaves r b version number v range ms k =
+    let p = leftByRun r in
+    let s = run-sound r in
+    let m = passphraseSet version number v in
+    let n = LineReader.reader-length in
+    rw (set-fed version number v range p s b ms k, frame-leaves version number v range p s b) (
+      take-at cleared (drop n (p .reader)) n (length-zeros n),
+      λ t. rw (tested-good version number v (t .version-served) (t .number-below))
+          (rw (set-carried [] (p .factory) (Receive.innerOf p) version number v)
+          (passphrase-placed (p .settings) v (valid-long {p = p} (s .valid) .settings) (t .length-allowed) (t .edition-below))),
+    )
 
 -- two sound parts, by the bytes received
-pub fed-sets : (p q : Parts) → Sound p → Sound q → SameButPassphrase p q → NothingCome p → NothingCome q
-    → passphraseEdition p < Limits.last-edition → passphraseEdition q < Limits.last-edition
-    → (version number : ℕ) (v w : List ℕ) → InRange (passphraseSet version number v) → InRange (passphraseSet version number w)
-    → wrongLength v ≡ wrongLength w
-    → SameButPassphrase (Receive.feedBytes [] p (frame (passphraseSet version number v)))
-    (Receive.feedBytes [] q (frame (passphraseSet version number w)))
-fed-sets p q sp sq e bp bq lp lq version number v w iv iw l =
-    let k = tested-same (q .factory) (Receive.innerOf p) (Receive.innerOf q)
-    (record { outbox = e .outbox; outside = outside-of e; registers = e .registers }) version number v w
-    (valid-long {p = p} (sp .valid) .settings) (valid-long {p = q} (sq .valid) .settings) lp lq l in
-    rw (frame-leaves version number v iv p sp bp, frame-leaves version number w iw q sq bq, e .factory)
-    (record {
-      reader = ap (λ (x : List ℕ). cleared ++ drop LineReader.reader-length x) (e .reader);
-      outbox = k .outbox;
-      factory = refl;
-      ahead = k .outside .ahead;
-      behind = k .outside .behind;
-      registers = k .registers;
-    })
+module _ (p q : Parts) (sp : Sound p) (sq : Sound q) (e : SameButPassphrase p q) (bp : NothingCome p) (bq : NothingCome q)
+    (version number : ℕ) (v w : List ℕ) (iv : InRange (passphraseSet version number v)) (iw : InRange (passphraseSet version number w))
+    (l : wrongLength v ≡ wrongLength w) where
+  inner-same : SameInner (Receive.innerOf p) (Receive.innerOf q)
+  inner-same = record { outbox = e .outbox; outside = outside-of e; registers = e .registers }
+
+  abbrev longs : (Layout.settings-length ≤ length (p .settings)) × (Layout.settings-length ≤ length (q .settings))
+  longs = (valid-long {p = p} (sp .valid) .settings, valid-long {p = q} (sq .valid) .settings)
+
+  pub fed-sets : atLast (p .settings) ≡ atLast (q .settings)
+      → SameButPassphrase (Receive.feedBytes [] p (frame (passphraseSet version number v)))
+      (Receive.feedBytes [] q (frame (passphraseSet version number w)))
+  fed-sets a =
+      let k = tested-same (q .factory) (Receive.innerOf p) (Receive.innerOf q) inner-same version number v w (longs .0) (longs .1) l a in
+      rw (frame-leaves version number v iv p sp bp, frame-leaves version number w iw q sq bq, e .factory)
+      (record {
+        reader = ap (λ (x : List ℕ). cleared ++ drop LineReader.reader-length x) (e .reader);
+        outbox = k .outbox;
+        factory = refl;
+        ahead = k .outside .ahead;
+        behind = k .outside .behind;
+        registers = k .registers;
+      })
+
+  -- equal editions stay equal
+  pub fed-editions : passphraseEdition p ≡ passphraseEdition q
+      → passphraseEdition (Receive.feedBytes [] p (frame (passphraseSet version number v)))
+      ≡ passphraseEdition (Receive.feedBytes [] q (frame (passphraseSet version number w)))
+  fed-editions d =
+      rw (frame-leaves version number v iv p sp bp, frame-leaves version number w iw q sq bq, e .factory)
+      (tested-equal (q .factory) (Receive.innerOf p) (Receive.innerOf q) inner-same version number v w (longs .0) (longs .1) l d)
 
 pub set-unseen : SetUnseen
 set-unseen r s e bp bq lp lq version number v w iv iw l ms ns km kn =
@@ -364,5 +412,6 @@ set-unseen r s e bp bq lp lq version number v w iv iw l ms ns km kn =
     let q = leftByRun s in
     let sp = run-sound r in
     let sq = run-sound s in
+    let low : Grow 1 (passphraseEdition p) (passphraseEdition q) = inl (omega arith, omega arith) in
     rw (set-fed version number v iv p sp bp ms km, set-fed version number w iw q sq bq ns kn)
-    (fed-sets p q sp sq e bp bq lp lq version number v w iv iw l)
+    (fed-sets p q sp sq e bp bq version number v w iv iw l (grow-last (omega arith) low))

@@ -1,58 +1,55 @@
 -- Two runs from one start that set passphrases of their own: the other calls answer the same, and only the record differs.
 -- Assumes nothing.
 use mathlib.Core.Path.{_≡_, refl, sym, ap, subst, _∙_}
-use mathlib.Core.Bool.{Bool, true, false, false≢true, cond, not, _&&_}
+use mathlib.Core.Logic.{inr}
+use mathlib.Core.Bool.{Bool, true, false, false≢true, cond, _&&_}
 use mathlib.Core.List.{List, [], _∷_, _++_, append-nil, append-assoc}
-use mathlib.Core.Option.{Option, none, some}
-use Prim.Native.Nat.{ℕ, zero, suc, _+_, _-_, _≤_, _<_}
+use mathlib.Core.Option.{some}
+use Prim.Native.Nat.{ℕ, suc, _≤_}
 use native.Mathlib.Omega.{arith}
-use lib.Dec.{eqb·suc-zero}
-use lib.ListN.{length}
+use lib.Dec.{eqb}
 use Rattle.octets.specs.Bytes.{Byte, Each}
-use Rattle.octets.proofs.Conditions.{cond-by}
 use Rattle.octets.proofs.Each.{each-append, each-take}
 use Rattle.line.specs.Message.{message}
 use Rattle.line.specs.Cobs.{cobs}
-use Rattle.line.specs.Frame.{Pieces, split, nonEmpty, closedBehind, frame}
-use Rattle.line.specs.Judge.{progressOf, moreReceived}
+use Rattle.line.specs.Frame.{Pieces, split, closedBehind, frame}
+use Rattle.line.specs.Judge.{progressOf}
 use Rattle.line.specs.Reader as LineReader
 use Rattle.line.proofs.Pieces.{split-none, closed-rest}
 use Rattle.line_claims.proofs.CobsClaims.{above-zero}
 use Rattle.line_claims.proofs.LoanLaws.{back-same}
 use Rattle.supervisor.specs.Limits
-use Rattle.supervisor.specs.State.{Factory, State, setting, fresh}
-use Rattle.supervisor.specs.Local
+use Rattle.supervisor.specs.State.{fresh}
 use Rattle.supervisor.specs.Calls.{Parts}
-use Rattle.responder.specs.Requests.{Verdict, failure, good, verdictSince}
 use Rattle.responder.specs.Receive
 use Rattle.supervisor_claims.specs.ByPart.{Part}
 use Rattle.supervisor_claims.specs.View.{factoryOf, view}
 use Rattle.supervisor_claims.specs.Sound.{Sound, withReader}
 use Rattle.supervisor_claims.specs.Histories
-use Rattle.supervisor_claims.specs.Histories.{LocalCall, Call, Typed, Did, didBy, did, doneMeans, meant, meantMade, upTo}
+use Rattle.supervisor_claims.specs.Histories.{LocalCall, Call, Typed, Did, didBy, did, upTo}
 use Rattle.supervisor_claims.specs.Histories.{Lent, enough, Made, made, locally}
 use Rattle.supervisor_claims.specs.FrameHistory.{pieceRead, isAcceptedStart, bytesReceivedBy, startsAnew}
-use Rattle.supervisor_claims.specs.FrameHistory.{receivedSince, framesClosedBy}
-use Rattle.supervisor_claims.specs.LastSet.{requestsIn, setBy, listedIf, setsOf}
+use Rattle.supervisor_claims.specs.FrameHistory.{receivedSince}
 use Rattle.supervisor_claims.specs.MixedCalls
 use Rattle.supervisor_claims.specs.MixedCalls.{MixedCall, DidMixed, didMixed, madeMixed, MixedOutput, outputsMixed, leftMixed}
 use Rattle.supervisor_claims.specs.MixedCalls.{mixedSince}
-use Rattle.supervisor_claims.specs.TwoRuns.{SameButPassphrase, passphraseEdition, setsBrought, setsBroughtBy, startsAnewBy}
+use Rattle.supervisor_claims.specs.TwoRuns.{SameButPassphrase, passphraseEdition, startsAnewBy}
 use Rattle.supervisor_claims.specs.Forgets.{passphraseSet, NothingCome}
 use Rattle.supervisor_claims.specs.TwoPassphrases
 use Rattle.supervisor_claims.specs.TwoPassphrases.{RunCall, otherOutputs, leftByCalls, bytesBrought, otherCalls, IsLocal, LocalMixed}
-use Rattle.supervisor_claims.specs.TwoPassphrases.{WhileSet, SetCalls, BringsSet, Turn, TypedTurn, callsOfTurns, firstRun, secondRun}
-use Rattle.supervisor_claims.specs.TwoPassphrases.{TwoSets, BeginsBetween, mostSets, TwoPassphrases}
+use Rattle.supervisor_claims.specs.TwoPassphrases.{WhileSet, SetCalls, BringsSet, Turn, TypedTurn, callsOfSet, firstRun, secondRun}
+use Rattle.supervisor_claims.specs.TwoPassphrases.{TwoSets, BeginsBetween, TwoPassphrases}
 use Rattle.supervisor_claims.proofs.laws.Progress.{Since, rest-nonzero}
 use Rattle.supervisor_claims.proofs.calls.ReceiveClaim.{fed-leaves}
-use Rattle.supervisor_claims.proofs.claims.History.{one-call, started}
+use Rattle.supervisor_claims.proofs.claims.History.{started}
 use Rattle.supervisor_claims.proofs.claims.MixedClaim.{mixed-meets, call-sound}
-use Rattle.supervisor_claims.proofs.claims.TwoRunLaws.{Room}
-use Rattle.supervisor_claims.proofs.claims.FedSame.{below-of, setsAt, setsInBytes, fed-rooms, closed-anew}
+use Rattle.supervisor_claims.proofs.claims.TwoRunLaws.{grow-equal}
+use Rattle.supervisor_claims.proofs.claims.OutsideLaws.{wrongLength}
+use Rattle.supervisor_claims.proofs.claims.FedSame.{closed-anew}
 use Rattle.supervisor_claims.proofs.claims.BehindLaws.{Harmless}
-use Rattle.supervisor_claims.proofs.claims.RunsSame.{CanGrow, SameDid, next-same, anew-mixed, same-parts}
-use Rattle.supervisor_claims.proofs.claims.SetUnseen.{fed-append, harmless-append, call-fed, pushes, harmless, none-yet, fed-sets}
-use Rattle.supervisor_claims.proofs.TwoRuns.{view-room}
+use Rattle.supervisor_claims.proofs.claims.RunsSame.{next-same, anew-mixed, same-parts}
+use Rattle.supervisor_claims.proofs.claims.SetUnseen.{fed-append, harmless-append, call-fed, pushes, harmless, none-yet}
+use Rattle.supervisor_claims.proofs.claims.SetUnseen.{fed-sets, fed-editions}
 
 abbrev NonZero : List ℕ → Type 0
 NonZero = Each (λ b. 1 ≤ b)
@@ -257,7 +254,7 @@ module _ (version number : ℕ) (x : SetCalls) (k : BringsSet version number x) 
       (harmless-append (bytesBrought (x .ahead)) (k .rest ++ (0 ∷ [])) ahead
       (rw (← append-assoc (bytesBrought (x .ahead)) (k .rest) (0 ∷ []), k .form) h) .1)
 
-  pub set-left : leftByCalls p (callsOfTurns x) ≡ Receive.feedBytes [] ahead (frame (passphraseSet version number (x .value)))
+  pub set-left : leftByCalls p (callsOfSet x) ≡ Receive.feedBytes [] ahead (frame (passphraseSet version number (x .value)))
   unfolding leftByCalls Receive.feedBytes
   set-left =
       let f = bytesBrought (x .ahead) in
@@ -269,14 +266,14 @@ module _ (version number : ℕ) (x : SetCalls) (k : BringsSet version number x) 
       ∙ ap (Receive.feedBytes [] ahead) (ap (λ (g : List ℕ). f ++ g) (k .ends) ∙ whole version number x k)
 
   pub set-others : (ys : List RunCall)
-      → otherOutputs p (callsOfTurns x ++ ys) ≡ outputsMixed p others ++ otherOutputs (leftByCalls p (callsOfTurns x)) ys
+      → otherOutputs p (callsOfSet x ++ ys) ≡ outputsMixed p others ++ otherOutputs (leftByCalls p (callsOfSet x)) ys
   unfolding otherOutputs Receive.feedBytes
   set-others ys =
-      other-append (callsOfTurns x) ys p
-      ∙ ap (λ (os : List MixedOutput). os ++ otherOutputs (leftByCalls p (callsOfTurns x)) ys)
+      other-append (callsOfSet x) ys p
+      ∙ ap (λ (os : List MixedOutput). os ++ otherOutputs (leftByCalls p (callsOfSet x)) ys)
       (other-append (x .ahead) (TwoPassphrases.brings (x .last) ∷ []) p ∙ append-nil (otherOutputs p (x .ahead)) ∙ collect .0)
 
--- ---- local calls bring no set
+-- ---- local calls start nothing anew
 
 -- bytes that are not 00 close no frame
 pub none-closed : (w f : List ℕ) → NonZero f → closedBehind w f ≡ []
@@ -295,57 +292,61 @@ local-silent m h = by (m .call) h (enough (m .call) (m .lent))
     by (Histories.local c) k true = (refl, refl)
     by (Histories.local c) k false = (refl, refl)
 
-none-brought : (w : List ℕ) (m : Made) → IsLocal (m .call) → (setsBrought w m ≡ 0) × (startsAnew m ≡ false)
-unfolding setsBrought framesClosedBy nonEmpty requestsIn setsOf
-none-brought w m h = let k = local-silent m h in (rw (k .0, none-closed w [] tt), k .1)
+none-anew : (c : MixedCall) → LocalMixed c → startsAnewBy c ≡ false
+none-anew (MixedCalls.supervisor m) h = local-silent m (h .0) .1
+none-anew (MixedCalls.lineStart l) h = absurd h
+none-anew (MixedCalls.lineRead l piece) h = absurd h
+none-anew (MixedCalls.lineTail l) h = absurd h
+none-anew (MixedCalls.lineData l n) h = absurd h
 
-none-mixed : (w : List ℕ) (c : MixedCall) → LocalMixed c → (setsBroughtBy w c ≡ 0) × (startsAnewBy c ≡ false)
-none-mixed w (MixedCalls.supervisor m) h = none-brought w m (h .0)
-none-mixed w (MixedCalls.lineStart l) h = absurd h
-none-mixed w (MixedCalls.lineRead l piece) h = absurd h
-none-mixed w (MixedCalls.lineTail l) h = absurd h
-none-mixed w (MixedCalls.lineData l n) h = absurd h
+-- ---- equal editions
 
-record LocalsSame (n : ℕ) (cs : List MixedCall) (p q : Parts) : Type 0 where
+-- what both runs hold: the bytes w came in the first
+record Between (w : List ℕ) (p q : Parts) : Type 0 where
+  left-sound : Sound p
+  right-sound : Sound q
+  since : Since (split w .rest) (view p)
+  parts : SameButPassphrase p q
+  editions : passphraseEdition p ≡ passphraseEdition q
+
+-- the same call in both, which is no accepted start
+record NextSame (w : List ℕ) (a b : DidMixed) : Type 0 where
+  answer : a .answer ≡ b .answer
+  out : a .out ≡ b .out
+  between : Between w (a .parts) (b .parts)
+
+next : (w : List ℕ) (p q : Parts) → Between w p q → (c : MixedCall) → MixedCalls.TypedMixed c → startsAnewBy c ≡ false
+    → NextSame (mixedSince w c) (madeMixed p c) (madeMixed q c)
+next w p q k c t x =
+    let d = next-same w p q (k .left-sound) (k .right-sound) (k .since) (k .parts) c t (suc Limits.last-edition) x (inr (k .editions)) in
+    let m = mixed-meets w p (k .left-sound) (k .since) c t in
+    record {
+      answer = d .answer;
+      out = d .out;
+      between = record {
+        left-sound = m .leaves .1;
+        right-sound = call-sound q (k .right-sound) c t;
+        since = rw (m .leaves .0) (m .since);
+        parts = d .parts;
+        editions = grow-equal (omega arith) (d .grow);
+      };
+    }
+
+-- local calls
+record LocalsSame (cs : List MixedCall) (p q : Parts) : Type 0 where
   outputs : outputsMixed p cs ≡ outputsMixed q cs
   parts : SameButPassphrase (leftMixed p cs) (leftMixed q cs)
-  left : CanGrow n (leftMixed p cs)
-  right : CanGrow n (leftMixed q cs)
+  editions : passphraseEdition (leftMixed p cs) ≡ passphraseEdition (leftMixed q cs)
 
-locals-same : (n : ℕ) (cs : List MixedCall) → Each LocalMixed cs → (w : List ℕ) (p q : Parts) → Sound p → Sound q
-    → Since (split w .rest) (view p) → SameButPassphrase p q → CanGrow n p → CanGrow n q → LocalsSame n cs p q
+locals-same : (cs : List MixedCall) → Each LocalMixed cs → (w : List ℕ) (p q : Parts) → Between w p q → LocalsSame cs p q
 unfolding outputsMixed leftMixed
-locals-same n [] l w p q sp sq h e a b = record { outputs = refl; parts = e; left = a; right = b }
-locals-same n (c ∷ cs) l w p q sp sq h e a b =
-    let t = local-typed c (l .0) in
-    let z = none-mixed w c (l .0) in
-    let k = next-same w p q sp sq h e c t n (z .1) (omega (arith, z .0)) (omega (arith, z .0)) in
-    let m = mixed-meets w p sp h c t in
-    let f =
-    locals-same n cs (l .1) (mixedSince w c) _ _ (m .leaves .1) (call-sound q sq c t) (rw (m .leaves .0) (m .since)) (k .parts) (k .left)
-    (k .right) in
-    record { outputs = rw (k .answer, k .out, f .outputs); parts = f .parts; left = f .left; right = f .right }
+locals-same [] l w p q k = record { outputs = refl; parts = k .parts; editions = k .editions }
+locals-same (c ∷ cs) l w p q k =
+    let d = next w p q k c (local-typed c (l .0)) (none-anew c (l .0)) in
+    let f = locals-same cs (l .1) (mixedSince w c) _ _ (d .between) in
+    record { outputs = rw (d .answer, d .out, f .outputs); parts = f .parts; editions = f .editions }
 
--- ---- editions
-
--- a 00 ends one set at most
-one-listed : (o : Option (List ℕ)) → length (listedIf o ++ []) ≤ 1
-one-listed none = omega arith
-one-listed (some v) = omega arith
-
-one-set : (o : Option Verdict) → setsAt o ≤ 1
-unfolding setsOf
-one-set none = omega arith
-one-set (some (failure reason version sequence)) = omega arith
-one-set (some (good m)) = one-listed (setBy Limits.passphrase-key m)
-
-frame-set : (f : List ℕ) → NonZero f → (o : Option (List ℕ)) → setsInBytes o (f ++ (0 ∷ [])) ≤ 1
-unfolding setsInBytes
-frame-set [] z o = omega (arith, one-set (verdictSince o))
-frame-set (zero ∷ f) z o = absurd (omega (arith, z .0))
-frame-set (suc b ∷ f) z o = rw eqb·suc-zero (frame-set f (z .1) (moreReceived o (suc b)))
-
--- behind the frame of a set nothing has come of a frame, and the edition is one more at most
+-- behind the frame of a set nothing has come of a frame
 module _ (p : Parts) (s : Sound p) (f : List ℕ) (z : NonZero f) (b : Each Byte (f ++ (0 ∷ []))) where
   abbrev behindFrame : Parts
   behindFrame = Receive.feedBytes [] p (f ++ (0 ∷ []))
@@ -360,45 +361,6 @@ module _ (p : Parts) (s : Sound p) (f : List ℕ) (z : NonZero f) (b : Each Byte
   unfolding split progressOf
   frame-since = record { received = frame-anew; nonzero = tt }
 
-  frame-grown : (n : ℕ) → CanGrow (1 + n) p → CanGrow n behindFrame
-  frame-grown n h =
-      below-of n behindFrame
-      (fed-rooms [] tt n (f ++ (0 ∷ [])) b p s (view-room _ p (omega (arith, frame-set f z (view p .received)))))
-
--- an accepted start puts it back to 0
-fresh-room : (f : Factory) → Room Limits.last-edition (fresh f .settings)
-unfolding fresh
-fresh-room f = record { long = refl; low = let e : setting (fresh f .settings) Limits.passphrase-key .edition ≡ 0 = refl in omega arith }
-
-anew-room : (s : State) (m : Made) → startsAnew m ≡ true → Room Limits.last-edition (meantMade s m .state .settings)
-unfolding startsAnew isAcceptedStart meantMade meant Local.start
-anew-room s m e = by (m .call) (enough (m .call) (m .lent)) e
-  where
-    begun : (bad : Bool) (f : Factory) → not bad ≡ true
-        → Room Limits.last-edition (doneMeans s (cond bad (Local.refused 11) (Local.left (fresh f))) .state .settings)
-    begun true f x = absurd (false≢true x)
-    begun false f x = fresh-room f
-
-    by : (c : Call) (b : Bool) → (b && isAcceptedStart c) ≡ true
-        → Room Limits.last-edition (cond b (meant s c) (Histories.means (Histories.refused 12) (Histories.untouched c) s) .state .settings)
-    by c false x = absurd (false≢true x)
-    by (Histories.start d) true x = begun (Local.badStart (factoryOf d)) (factoryOf d) x
-    by (Histories.receive image piece) true x = absurd (false≢true x)
-    by (Histories.step image piece) true x = absurd (false≢true x)
-    by (Histories.local c) true x = absurd (false≢true x)
-
-anew-zero : (p : Parts) → Sound p → (c : MixedCall) → MixedCalls.TypedMixed c → startsAnewBy c ≡ true
-    → passphraseEdition (madeMixed p c .parts) ≤ 0
-unfolding madeMixed
-anew-zero p s (MixedCalls.supervisor m) t x =
-    let k = one-call p m s t .leaves .0 in
-    let r = below-of Limits.last-edition (made p m .parts) (rw k (anew-room (view p) m x)) in
-    omega arith
-anew-zero p s (MixedCalls.lineStart l) t x = absurd (false≢true x)
-anew-zero p s (MixedCalls.lineRead l piece) t x = absurd (false≢true x)
-anew-zero p s (MixedCalls.lineTail l) t x = absurd (false≢true x)
-anew-zero p s (MixedCalls.lineData l n) t x = absurd (false≢true x)
-
 anew-since : (w : List ℕ) (c : MixedCall) → startsAnewBy c ≡ true → mixedSince w c ≡ []
 unfolding mixedSince receivedSince
 anew-since w (MixedCalls.supervisor m) x = rw x
@@ -409,65 +371,27 @@ anew-since w (MixedCalls.lineData l n) x = absurd (false≢true x)
 
 -- ---- turns
 
-least : (ts : List Turn) (n : ℕ) (w : List ℕ) → n ≤ mostSets n w ts
-unfolding mostSets
-least [] n w = omega arith
-least (TwoPassphrases.same c ∷ ts) n w =
-    cond-by (λ k. n ≤ k) (startsAnewBy c) _ _ (λ _. omega arith)
-    (λ _. omega (arith, least ts (n + setsBroughtBy w c) (mixedSince w c)))
-least (TwoPassphrases.sets version number x y ∷ ts) n w = omega (arith, least ts (suc n) [])
-
--- what both runs hold between turns: n sets came since the last accepted start, and the bytes w in the first
-record Between (n : ℕ) (w : List ℕ) (p q : Parts) : Type 0 where
-  left-sound : Sound p
-  right-sound : Sound q
-  since : Since (split w .rest) (view p)
-  parts : SameButPassphrase p q
-  left : passphraseEdition p ≤ n
-  right : passphraseEdition q ≤ n
-
 abbrev Claimed : List Turn → Parts → Parts → Type 0
 Claimed ts p q =
     (otherOutputs p (firstRun ts) ≡ otherOutputs q (secondRun ts))
     × SameButPassphrase (leftByCalls p (firstRun ts)) (leftByCalls q (secondRun ts))
 
--- the same call in both
-module _ (n : ℕ) (w : List ℕ) (p q : Parts) (k : Between n w p q) (c : MixedCall) (t : MixedCalls.TypedMixed c) where
-  anew-between : startsAnewBy c ≡ true → Between 0 [] (madeMixed p c .parts) (madeMixed p c .parts)
-  anew-between x =
-      let m = mixed-meets w p (k .left-sound) (k .since) c t in
-      let z = anew-zero p (k .left-sound) c t x in
-      record {
-        left-sound = m .leaves .1;
-        right-sound = m .leaves .1;
-        since = rw (m .leaves .0) (rw (anew-since w c x) at (m .since));
-        parts = same-parts _;
-        left = z;
-        right = z;
-      }
-
-  next : startsAnewBy c ≡ false → n + setsBroughtBy w c < Limits.last-edition
-      → SameDid (Limits.last-edition - (n + setsBroughtBy w c)) (madeMixed p c) (madeMixed q c)
-  next x h =
-      next-same w p q (k .left-sound) (k .right-sound) (k .since) (k .parts) c t _ x (omega (arith, k .left)) (omega (arith, k .right))
-
-  next-between : startsAnewBy c ≡ false → n + setsBroughtBy w c < Limits.last-edition
-      → Between (n + setsBroughtBy w c) (mixedSince w c) (madeMixed p c .parts) (madeMixed q c .parts)
-  next-between x h =
-      let m = mixed-meets w p (k .left-sound) (k .since) c t in
-      let d = next x h in
-      record {
-        left-sound = m .leaves .1;
-        right-sound = call-sound q (k .right-sound) c t;
-        since = rw (m .leaves .0) (m .since);
-        parts = d .parts;
-        left = omega (arith, d .left);
-        right = omega (arith, d .right);
-      }
+-- an accepted start
+anew-between : (w : List ℕ) (p q : Parts) → Between w p q → (c : MixedCall) → MixedCalls.TypedMixed c → startsAnewBy c ≡ true
+    → Between [] (madeMixed p c .parts) (madeMixed p c .parts)
+anew-between w p q k c t x =
+    let m = mixed-meets w p (k .left-sound) (k .since) c t in
+    record {
+      left-sound = m .leaves .1;
+      right-sound = m .leaves .1;
+      since = rw (m .leaves .0) (rw (anew-since w c x) at (m .since));
+      parts = same-parts _;
+      editions = refl;
+    }
 
 -- a set in each
-module _ (n : ℕ) (w : List ℕ) (p q : Parts) (k : Between n w p q) (version number : ℕ) (x y : SetCalls) (t : TwoSets version number x y)
-    (b : NothingCome p) (h : suc n < Limits.last-edition) where
+module _ (w : List ℕ) (p q : Parts) (k : Between w p q) (version number : ℕ) (x y : SetCalls) (t : TwoSets version number x y)
+    (b : NothingCome p) where
   abbrev cs : List MixedCall
   cs = otherCalls (y .ahead)
 
@@ -480,16 +404,14 @@ module _ (n : ℕ) (w : List ℕ) (p q : Parts) (k : Between n w p q) (version n
   right-between : NothingCome q
   right-between = ap LineReader.receivedOf (sym (k .parts .reader)) ∙ b
 
-  locals : LocalsSame (Limits.last-edition - n) cs p q
-  locals =
-      locals-same _ cs (locals-of (y .ahead) (t .second .each)) w p q (k .left-sound) (k .right-sound) (k .since) (k .parts)
-      (omega (arith, k .left)) (omega (arith, k .right))
+  locals : LocalsSame cs p q
+  locals = locals-same cs (locals-of (y .ahead) (t .second .each)) w p q k
 
-  left-ahead : leftByCalls p (callsOfTurns x) ≡ Receive.feedBytes [] (leftMixed p cs) vf
-  left-ahead = subst (λ (os : List MixedCall). leftByCalls p (callsOfTurns x) ≡ Receive.feedBytes [] (leftMixed p os) vf) (t .others)
+  left-ahead : leftByCalls p (callsOfSet x) ≡ Receive.feedBytes [] (leftMixed p cs) vf
+  left-ahead = subst (λ (os : List MixedCall). leftByCalls p (callsOfSet x) ≡ Receive.feedBytes [] (leftMixed p os) vf) (t .others)
       (set-left version number x (t .first) p (k .left-sound) b)
 
-  right-ahead : leftByCalls q (callsOfTurns y) ≡ Receive.feedBytes [] (leftMixed q cs) wf
+  right-ahead : leftByCalls q (callsOfSet y) ≡ Receive.feedBytes [] (leftMixed q cs) wf
   right-ahead = set-left version number y (t .second) q (k .right-sound) right-between
 
   p-sound : Sound (leftMixed p cs)
@@ -504,58 +426,53 @@ module _ (n : ℕ) (w : List ℕ) (p q : Parts) (k : Between n w p q) (version n
   q-sound : Sound (leftMixed q cs)
   q-sound = ahead-sound version number y (t .second) q (k .right-sound) right-between
 
-  fed : SameButPassphrase (Receive.feedBytes [] (leftMixed p cs) vf) (Receive.feedBytes [] (leftMixed q cs) wf)
-  fed =
-      let l = locals in
-      fed-sets (leftMixed p cs) (leftMixed q cs) p-sound q-sound (l .parts) p-between
-      (ahead-between version number y (t .second) q (k .right-sound) right-between) (omega (arith, l .left)) (omega (arith, l .right))
-      version number (x .value) (y .value) (t .first .range) (t .second .range) (t .first .allowed ∙ sym (t .second .allowed))
+  q-between : NothingCome (leftMixed q cs)
+  q-between = ahead-between version number y (t .second) q (k .right-sound) right-between
 
-  set-between : Between (suc n) [] (leftByCalls p (callsOfTurns x)) (leftByCalls q (callsOfTurns y))
+  allowed-same : wrongLength (x .value) ≡ wrongLength (y .value)
+  allowed-same = t .first .allowed ∙ sym (t .second .allowed)
+
+  set-between : Between [] (leftByCalls p (callsOfSet x)) (leftByCalls q (callsOfSet y))
   unfolding frame
   set-between =
       let l = locals in
       let bv = frame-bytes version number x (t .first) p (k .left-sound) b in
       let bw = frame-bytes version number y (t .second) q (k .right-sound) right-between in
-      let fv = cobs (message (passphraseSet version number (x .value))) in
-      let fw = cobs (message (passphraseSet version number (y .value))) in
-      let zv = above-zero (message (passphraseSet version number (x .value))) in
-      let zw = above-zero (message (passphraseSet version number (y .value))) in
-      let m = Limits.last-edition - suc n in
-      let gv = frame-grown (leftMixed p cs) p-sound fv zv bv m (omega (arith, l .left)) in
-      let gw = frame-grown (leftMixed q cs) q-sound fw zw bw m (omega (arith, l .right)) in
+      let m = message (passphraseSet version number (x .value)) in
+      let rv = t .first .range in
+      let ry = t .second .range in
       rw (left-ahead, right-ahead)
       (record {
         left-sound = fed-sound (leftMixed p cs) p-sound vf bv;
         right-sound = fed-sound (leftMixed q cs) q-sound wf bw;
-        since = frame-since (leftMixed p cs) p-sound fv zv bv;
-        parts = fed;
-        left = omega (arith, gv);
-        right = omega (arith, gw);
+        since = frame-since (leftMixed p cs) p-sound (cobs m) (above-zero m) bv;
+        parts =
+            fed-sets (leftMixed p cs) (leftMixed q cs) p-sound q-sound (l .parts) p-between q-between version number (x .value) (y .value)
+            rv ry allowed-same (ap (λ (n : ℕ). eqb n Limits.last-edition) (l .editions));
+        editions =
+            fed-editions (leftMixed p cs) (leftMixed q cs) p-sound q-sound (l .parts) p-between q-between version number (x .value)
+            (y .value) rv ry allowed-same (l .editions);
       })
 
   set-outputs : (us vs : List RunCall)
-      → otherOutputs (leftByCalls p (callsOfTurns x)) us ≡ otherOutputs (leftByCalls q (callsOfTurns y)) vs
-      → otherOutputs p (callsOfTurns x ++ us) ≡ otherOutputs q (callsOfTurns y ++ vs)
+      → otherOutputs (leftByCalls p (callsOfSet x)) us ≡ otherOutputs (leftByCalls q (callsOfSet y)) vs
+      → otherOutputs p (callsOfSet x ++ us) ≡ otherOutputs q (callsOfSet y ++ vs)
   set-outputs us vs e =
       set-others version number x (t .first) p (k .left-sound) b us
       ∙ rw (t .others, locals .outputs, e) refl
       ∙ sym (set-others version number y (t .second) q (k .right-sound) right-between vs)
 
-turns-same : (ts : List Turn) → Each TypedTurn ts → (n : ℕ) (w : List ℕ) (p q : Parts) → Between n w p q → BeginsBetween p ts
-    → mostSets n w ts < Limits.last-edition → Claimed ts p q
-unfolding mostSets otherOutputs leftByCalls firstRun secondRun
-turns-same [] t n w p q k b h = (refl, k .parts)
-turns-same (TwoPassphrases.same c ∷ ts) t n w p q k b h = by (startsAnewBy c) refl (turns-same ts (t .1))
+turns-same : (ts : List Turn) → Each TypedTurn ts → (w : List ℕ) (p q : Parts) → Between w p q → BeginsBetween p ts → Claimed ts p q
+unfolding otherOutputs leftByCalls firstRun secondRun
+turns-same [] t w p q k b = (refl, k .parts)
+turns-same (TwoPassphrases.same c ∷ ts) t w p q k b = by (startsAnewBy c) refl (turns-same ts (t .1))
   where
     by : (x : Bool) → startsAnewBy c ≡ x
-        → ((n' : ℕ) (w' : List ℕ) (p' q' : Parts) → Between n' w' p' q' → BeginsBetween p' ts → mostSets n' w' ts < Limits.last-edition
-        → Claimed ts p' q')
+        → ((w' : List ℕ) (p' q' : Parts) → Between w' p' q' → BeginsBetween p' ts → Claimed ts p' q')
         → Claimed (TwoPassphrases.same c ∷ ts) p q
     by true x rest =
-        let m = rw x at h in
         let e = anew-mixed w p q (k .left-sound) (k .right-sound) (k .since) (k .parts) c (t .0) x in
-        let f = rest 0 [] _ _ (anew-between n w p q k c (t .0) x) b (omega arith) in
+        let f = rest [] _ _ (anew-between w p q k c (t .0) x) b in
         let d = madeMixed p c in (
           subst (λ (r : DidMixed). _≡_ {A = List MixedOutput}
               ((record { answer = d .answer; out = d .out }) ∷ otherOutputs (d .parts) (firstRun ts))
@@ -564,34 +481,22 @@ turns-same (TwoPassphrases.same c ∷ ts) t n w p q k b h = by (startsAnewBy c) 
               (f .1),
         )
     by false x rest =
-        let m = rw x at h in
-        let l = least ts (n + setsBroughtBy w c) (mixedSince w c) in
-        let d = next n w p q k c (t .0) x (omega arith) in
-        let f = rest _ (mixedSince w c) _ _ (next-between n w p q k c (t .0) x (omega arith)) b m in
+        let d = next w p q k c (t .0) x in
+        let f = rest (mixedSince w c) _ _ (d .between) b in
         (rw (d .answer, d .out, f .0) refl, f .1)
-turns-same (TwoPassphrases.sets version number x y ∷ ts) t n w p q k b h =
-    let l = least ts (suc n) [] in
-    let s : suc n < Limits.last-edition = omega arith in
-    let z = set-between n w p q k version number x y (t .0) (b .0) s in
-    let f = turns-same ts (t .1) (suc n) [] _ _ z (b .1) h in (
-      set-outputs n w p q k version number x y (t .0) (b .0) s (firstRun ts) (secondRun ts) (f .0),
-      rw (left-append (callsOfTurns x) (firstRun ts) p, left-append (callsOfTurns y) (secondRun ts) q) (f .1),
+turns-same (TwoPassphrases.sets version number x y ∷ ts) t w p q k b =
+    let z = set-between w p q k version number x y (t .0) (b .0) in
+    let f = turns-same ts (t .1) [] _ _ z (b .1) in (
+      set-outputs w p q k version number x y (t .0) (b .0) (firstRun ts) (secondRun ts) (f .0),
+      rw (left-append (callsOfSet x) (firstRun ts) p, left-append (callsOfSet y) (secondRun ts) q) (f .1),
     )
 
 pub two-passphrases : TwoPassphrases
 unfolding fresh split progressOf
-two-passphrases p b l d typed h ts t begins most =
+two-passphrases p b l d typed h ts t begins =
     let k = started p b l d typed h in
     let q = made p (Histories.startWith l d) .parts in
     let z : Since [] (fresh (factoryOf d)) = record { received = refl; nonzero = tt } in
-    let e = below-of Limits.last-edition q (rw (k .0) (fresh-room (factoryOf d))) in
-    turns-same ts t 0 [] q q
-    (record {
-      left-sound = k .1;
-      right-sound = k .1;
-      since = rw (k .0) z;
-      parts = same-parts q;
-      left = omega arith;
-      right = omega arith;
-    })
-    begins most
+    turns-same ts t [] q q
+    (record { left-sound = k .1; right-sound = k .1; since = rw (k .0) z; parts = same-parts q; editions = refl })
+    begins

@@ -2,11 +2,11 @@
 -- what a request, received bytes and a call make of them is the same but for that setting.
 -- Assumes nothing.
 use mathlib.Core.Path.{_≡_, refl, sym, ap, subst, _∙_}
-use mathlib.Core.Logic.{inl, inr}
+use mathlib.Core.Logic.{_⊎_, inl, inr}
 use mathlib.Core.Bool.{Bool, true, false, cond, not, false≢true}
 use mathlib.Core.List.{List, [], _∷_}
 use mathlib.Core.Option.{Option, none, some}
-use Prim.Native.Nat.{ℕ, zero, suc, _+_, _-_, _≤_}
+use Prim.Native.Nat.{ℕ, zero, suc, _+_, _-_, _≤_, _<_}
 use native.Mathlib.Nat.{add-zero}
 use native.Mathlib.Omega.{arith}
 use lib.Dec.{ltb, eqb}
@@ -55,47 +55,62 @@ pub record Like (s t : State) : Type 0 where
   pub rest : s ≡ withSettings t (s .settings)
   pub settings : Alike (s .settings) (t .settings)
 
--- the passphrase's edition can grow by n
-pub record Room (n : ℕ) (z : Settings) : Type 0 where
-  pub long : length z ≡ Limits.setting-count
-  pub low : setting z Limits.passphrase-key .edition + n ≤ Limits.last-edition
+-- the passphrase's editions: both can grow by n, or they are equal
+abbrev pub Grow : ℕ → ℕ → ℕ → Type 0
+Grow n a b = ((a + n ≤ Limits.last-edition) × (b + n ≤ Limits.last-edition)) ⊎ (a ≡ b)
+
+pub grow-less : {m n a b : ℕ} → m ≤ n → Grow n a b → Grow m a b
+grow-less h (inl r) = inl (omega (arith, r .0), omega (arith, r .1))
+grow-less h (inr e) = inr e
+
+-- by more than they can, they are equal
+pub grow-equal : {n a b : ℕ} → Limits.last-edition < n → Grow n a b → a ≡ b
+grow-equal h (inl r) = absurd (omega (arith, r .0))
+grow-equal h (inr e) = e
+
+-- so that a set finds both at the last or neither
+pub grow-last : {n a b : ℕ} → 1 ≤ n → Grow n a b → eqb a Limits.last-edition ≡ eqb b Limits.last-edition
+grow-last {n} {a} {b} h (inl r) =
+    ne-eqb a Limits.last-edition (λ e. omega (arith, e, r .0)) ∙ sym (ne-eqb b Limits.last-edition (λ e. omega (arith, e, r .1)))
+grow-last h (inr e) = ap (λ (n : ℕ). eqb n Limits.last-edition) e
+
+-- so in two stores of all settings
+pub record Room (n : ℕ) (z y : Settings) : Type 0 where
+  pub left-long : length z ≡ Limits.setting-count
+  pub right-long : length y ≡ Limits.setting-count
+  pub grow : Grow n (setting z Limits.passphrase-key .edition) (setting y Limits.passphrase-key .edition)
 
 pub record Pair (n : ℕ) (s t : State) : Type 0 where
   pub like : Like s t
-  pub left : Room n (s .settings)
-  pub right : Room n (t .settings)
+  pub room : Room n (s .settings) (t .settings)
 
 pub passphrase : SettingsKey Limits.passphrase-key
 passphrase = record { lower = omega arith; upper = omega arith }
 
-pub room-less : {m n : ℕ} {z : Settings} → m ≤ n → Room n z → Room m z
-room-less h r = record { long = r .long; low = omega arith }
+pub room-less : {m n : ℕ} {z y : Settings} → m ≤ n → Room n z y → Room m z y
+room-less h r = record { left-long = r .left-long; right-long = r .right-long; grow = grow-less h (r .grow) }
 
 pair-less : {m n : ℕ} {s t : State} → m ≤ n → Pair n s t → Pair m s t
-pair-less h p = record { like = p .like; left = room-less h (p .left); right = room-less h (p .right) }
+pair-less h p = record { like = p .like; room = room-less h (p .room) }
 
 -- ---- keys that are set
 
 abbrev StoredAlike : Stored → Stored → Type 0
 StoredAlike t u = (t .result ≡ u .result) × Alike (t .settings) (u .settings)
 
--- the edition is not the last
-abbrev Before : Settings → Type 0
-Before z = setting z Limits.passphrase-key .edition ≡ Limits.last-edition → ⊥
+abbrev atLast : Settings → Bool
+atLast z = eqb (setting z Limits.passphrase-key .edition) Limits.last-edition
 
 module _ (z y : Settings) (e : Alike z y) (v : List ℕ) where
-  -- the passphrase, if a value of a right length finds the edition below the last in both
-  stored-passphrase : (wrongValueLength Limits.passphrase-key (length v) ≡ false → Before z × Before y)
+  -- the passphrase, if a value of a right length finds the edition at the last in both or in neither
+  stored-passphrase : (wrongValueLength Limits.passphrase-key (length v) ≡ false → atLast z ≡ atLast y)
       → StoredAlike (storeValue z Limits.passphrase-key v) (storeValue y Limits.passphrase-key v)
   unfolding storeValue
   stored-passphrase low =
       let i = Limits.passphrase-key - Limits.first-setting in
       cond-both StoredAlike (wrongValueLength Limits.passphrase-key (length v)) (λ f. (refl, e)) (λ f.
-      rw (
-        ne-eqb (setting z Limits.passphrase-key .edition) Limits.last-edition (low f .0),
-        ne-eqb (setting y Limits.passphrase-key .edition) Limits.last-edition (low f .1),
-      )
-      (refl, set-set z i _ unset ∙ e ∙ sym (set-set y i _ unset)))
+      rw (low f)
+      (cond-both StoredAlike (atLast y) (λ g. (refl, e)) (λ g. (refl, set-set z i _ unset ∙ e ∙ sym (set-set y i _ unset)))))
 
   stored-other : (key : ℕ) → (key ≡ Limits.passphrase-key → ⊥) → StoredAlike (storeValue z key v) (storeValue y key v)
   unfolding storeValue
@@ -114,18 +129,17 @@ module _ (z y : Settings) (e : Alike z y) (v : List ℕ) where
 
 -- by a key set's data
 data-alike : (z y : Settings) → Alike z y → (bs : List ℕ)
-    → let n = length (listedIf (valueFor Limits.passphrase-key bs)) in Room n z → Room n y
+    → Room (length (listedIf (valueFor Limits.passphrase-key bs))) z y
     → StoredAlike (storeValue z (numberAt 1 bs 0) (drop 1 bs)) (storeValue y (numberAt 1 bs 0) (drop 1 bs))
 unfolding number storeValue valueFor
-data-alike z y e [] r q = (refl, e)
-data-alike z y e (key ∷ v) r q = rw add-zero (by (eqb key Limits.passphrase-key) refl)
+data-alike z y e [] r = (refl, e)
+data-alike z y e (key ∷ v) r = rw add-zero (by (eqb key Limits.passphrase-key) refl)
   where
-    before : eqb key Limits.passphrase-key ≡ true → wrongValueLength Limits.passphrase-key (length v) ≡ false → (x : Settings)
-        → Room (length (listedIf (valueFor Limits.passphrase-key (key ∷ v)))) x → Before x
-    before f g x r h = let l = rw (f, g) at (r .low) in omega arith
+    both : eqb key Limits.passphrase-key ≡ true → wrongValueLength Limits.passphrase-key (length v) ≡ false → atLast z ≡ atLast y
+    both f g = grow-last (omega arith) (rw (f, g) at (r .grow))
 
     by : (t : Bool) → eqb key Limits.passphrase-key ≡ t → StoredAlike (storeValue z key v) (storeValue y key v)
-    by true f = rw (eqb-true key Limits.passphrase-key f) (stored-passphrase z y e v (λ g. (before f g z r, before f g y q)))
+    by true f = rw (eqb-true key Limits.passphrase-key f) (stored-passphrase z y e v (both f))
     by false f = stored-other z y e v key (eqb-false key Limits.passphrase-key f)
 
 -- ---- a request
@@ -135,8 +149,7 @@ record SameCarried (c d : Carried) : Type 0 where
   state : Like (c .state) (d .state)
 
 module _ (image : List ℕ) (m : Message) (t : State) (z : Settings) (e : Alike z (t .settings))
-    (left : Room (length (listedIf (setBy Limits.passphrase-key m))) z)
-    (right : Room (length (listedIf (setBy Limits.passphrase-key m))) (t .settings)) where
+    (room : Room (length (listedIf (setBy Limits.passphrase-key m))) z (t .settings)) where
   abbrev s : State
   s = withSettings t z
 
@@ -155,7 +168,7 @@ module _ (image : List ℕ) (m : Message) (t : State) (z : Settings) (e : Alike 
       → SameCarried (Requests.keySet (m .version) s (m .payload)) (Requests.keySet (m .version) t (m .payload))
   unfolding commandNumber setBy Requests.keySet
   set-same n =
-      let k = data-alike z (t .settings) e (m .payload) (rw n at left) (rw n at right) in
+      let k = data-alike z (t .settings) e (m .payload) (rw n at room) in
       record { reply = rw (k .0); state = record { rest = refl; settings = k .1 } }
 
   effect-same : (x : Command) → m .command ≡ commandNumber x → SameCarried (effect x image s m) (effect x image t m)
@@ -219,13 +232,43 @@ count-ahead v r =
     let k = Limits.passphrase-key in
     rw (request-append v [] r, sets-append k (requestAhead v []) r) (length-append (setsOf k (requestAhead v [])) (setsOf k r))
 
+-- and equal editions to equal ones
+onto-edition : (x : Setting) (v : List ℕ) → let n = x .edition in onto x (some v) .edition ≡ cond (eqb n Limits.last-edition) n (suc n)
+onto-edition x v = by (eqb (x .edition) Limits.last-edition)
+  where
+    by : (t : Bool) → (cond t x (record { edition = suc (x .edition); value = some v })) .edition ≡ cond t (x .edition) (suc (x .edition))
+    by true = refl
+    by false = refl
+
+onto-equal : (x y : Setting) (o : Option (List ℕ)) → x .edition ≡ y .edition → onto x o .edition ≡ onto y o .edition
+onto-equal x y none e = e
+onto-equal x y (some v) e =
+    onto-edition x v ∙ ap (λ (n : ℕ). cond (eqb n Limits.last-edition) n (suc n)) e ∙ sym (onto-edition y v)
+
+sets-equal : (k : ℕ) (x y : Setting) (ms : List Message) → x .edition ≡ y .edition → afterSets k x ms .edition ≡ afterSets k y ms .edition
+unfolding afterSets
+sets-equal k x y [] e = e
+sets-equal k x y (m ∷ ms) e = sets-equal k (onto x (setBy k m)) (onto y (setBy k m)) ms (onto-equal x y (setBy k m) e)
+
+sets-grow : (k : ℕ) (x y : Setting) (ms : List Message) (n : ℕ) → Grow (length (setsOf k ms) + n) (x .edition) (y .edition)
+    → Grow n (afterSets k x ms .edition) (afterSets k y ms .edition)
+sets-grow k x y ms n (inl r) = inl (omega (arith, r .0, sets-raise k x ms), omega (arith, r .1, sets-raise k y ms))
+sets-grow k x y ms n (inr e) = inr (sets-equal k x y ms e)
+
 module _ (image : List ℕ) where
-  pub judged-room : (v : Verdict) (n : ℕ) (s : State) → Room (setCount (requestAhead v []) + n) (s .settings)
-      → Room n (afterVerdict image s v .settings)
-  judged-room v n s r =
-      let x = setting (s .settings) Limits.passphrase-key in
-      let h = judged-has image passphrase s v x (record { long = r .long; held = refl }) in
-      record { long = h .long; low = rw (h .held) (omega (arith, sets-raise Limits.passphrase-key x (requestAhead v []))) }
+  pub judged-room : (v : Verdict) (n : ℕ) (s t : State) → Room (setCount (requestAhead v []) + n) (s .settings) (t .settings)
+      → Room n (afterVerdict image s v .settings) (afterVerdict image t v .settings)
+  judged-room v n s t r =
+      let k = Limits.passphrase-key in
+      let x = setting (s .settings) k in
+      let y = setting (t .settings) k in
+      let g = judged-has image passphrase s v x (record { long = r .left-long; held = refl }) in
+      let h = judged-has image passphrase t v y (record { long = r .right-long; held = refl }) in
+      record {
+        left-long = g .long;
+        right-long = h .long;
+        grow = rw (g .held, h .held) (sets-grow k x y (requestAhead v []) n (r .grow));
+      }
 
   judged-like : (v : Verdict) {s t : State} → Pair (setCount (requestAhead v [])) s t
       → Like (afterVerdict image s v) (afterVerdict image t v)
@@ -234,13 +277,13 @@ module _ (image : List ℕ) where
   judged-like (good m) {s} {t} p =
       let n = length-append (listedIf (setBy Limits.passphrase-key m)) [] in
       let c = subst (λ (x : State). SameCarried (carryOut image x m) (carryOut image t m)) (sym (p .like .rest))
-      (carried-same image m t (s .settings) (p .like .settings) (room-less (omega arith) (p .left)) (room-less (omega arith) (p .right))) in
+      (carried-same image m t (s .settings) (p .like .settings) (room-less (omega arith) (p .room))) in
       rw (c .reply) (sent-like _ (c .state))
 
   judged-pair : (v : Verdict) (n : ℕ) (s t : State) → Pair (setCount (requestAhead v []) + n) s t
       → Pair n (afterVerdict image s v) (afterVerdict image t v)
   judged-pair v n s t p =
-      record { like = judged-like v (pair-less (omega arith) p); left = judged-room v n s (p .left); right = judged-room v n t (p .right) }
+      record { like = judged-like v (pair-less (omega arith) p); room = judged-room v n s t (p .room) }
 
   frames-pair : (fs : List (List ℕ)) (n : ℕ) (s t : State) → let gs = nonEmpty fs in Pair (setCount (requestsIn gs) + n) s t
       → Pair n (framesCarried image s gs) (framesCarried image t gs)
@@ -259,7 +302,7 @@ module _ (image : List ℕ) where
   unfolding carriedOut framesClosedBy
   bytes-pair w bs n s t p =
       let q = frames-pair (closedBehind w bs) n s t p in
-      record { like = received-like _ (q .like); left = q .left; right = q .right }
+      record { like = received-like _ (q .like); room = q .room }
 
 -- ---- what is told of a frame
 
@@ -273,9 +316,8 @@ served-same (good m) {s} {t} p = by (eqb (m .command) (commandNumber Command.key
     by true f =
         let n = length-append (listedIf (setBy Limits.passphrase-key m)) [] in
         let e = eqb-true (m .command) (commandNumber Command.key-set) f in
-        let a : Room (length (listedIf (setBy Limits.passphrase-key m))) (s .settings) = room-less (omega arith) (p .left) in
-        let b : Room (length (listedIf (setBy Limits.passphrase-key m))) (t .settings) = room-less (omega arith) (p .right) in
-        ap (servedOf m) (data-alike (s .settings) (t .settings) (p .like .settings) (m .payload) (rw e at a) (rw e at b) .0)
+        let r : Room (length (listedIf (setBy Limits.passphrase-key m))) (s .settings) (t .settings) = room-less (omega arith) (p .room) in
+        ap (servedOf m) (data-alike (s .settings) (t .settings) (p .like .settings) (m .payload) (rw e at r) .0)
     by false f = rw f
 
 -- the first of the frames that calls bring
@@ -306,11 +348,18 @@ module _ (es : List Saving.SavedEntry) where
       replaced-set Saving.saved-count (omega arith) z ∙ ap (Saving.replaced Saving.saved-count es) e
       ∙ sym (replaced-set Saving.saved-count (omega arith) y)
 
-  restored-room : (n : ℕ) (z : Settings) → Room n z → Room n (Saving.restoredSettings es z)
-  restored-room n z r = record {
-    long = replaced-long es Saving.saved-count z ∙ r .long;
-    low = rw (replaced-other es Saving.saved-count z Limits.passphrase-key passphrase (omega arith)) (r .low);
-  }
+  restored-room : (n : ℕ) (z y : Settings) → Room n z y → Room n (Saving.restoredSettings es z) (Saving.restoredSettings es y)
+  restored-room n z y r =
+      let k = Saving.saved-count in
+      record {
+        left-long = replaced-long es k z ∙ r .left-long;
+        right-long = replaced-long es k y ∙ r .right-long;
+        grow = rw (
+          replaced-other es k z Limits.passphrase-key passphrase (omega arith),
+          replaced-other es k y Limits.passphrase-key passphrase (omega arith),
+        )
+            (r .grow);
+      }
 
 -- ---- a call
 
@@ -325,12 +374,12 @@ settings-alike : (o : Option (List Saving.SavedEntry)) (z y : Settings) → Alik
 settings-alike none z y e = e
 settings-alike (some es) z y e = restored-alike es z y e
 
-settings-room : (o : Option (List Saving.SavedEntry)) (n : ℕ) (z : Settings) → Room n z → Room n (settingsBy o z)
-settings-room none n z r = r
-settings-room (some es) n z r = restored-room es n z r
+settings-room : (o : Option (List Saving.SavedEntry)) (n : ℕ) (z y : Settings) → Room n z y → Room n (settingsBy o z) (settingsBy o y)
+settings-room none n z y r = r
+settings-room (some es) n z y r = restored-room es n z y r
 
 -- a local call
-module _ (n : ℕ) (t : State) (z : Settings) (e : Alike z (t .settings)) (left : Room n z) (right : Room n (t .settings)) where
+module _ (n : ℕ) (t : State) (z : Settings) (e : Alike z (t .settings)) (room : Room n z (t .settings)) where
   local-by : (c : LocalCall) → Same n (meant (withSettings t z) (Histories.local c)) (meant t (Histories.local c))
   unfolding recordsRestored
   local-by c =
@@ -341,15 +390,14 @@ module _ (n : ℕ) (t : State) (z : Settings) (e : Alike z (t .settings)) (left 
         out = refl;
         pair = record {
           like = record { rest = refl; settings = rw (local-settings t c) (settings-alike o z (t .settings) e) };
-          left = settings-room o n z left;
-          right = rw (local-settings t c) (settings-room o n (t .settings) right);
+          room = rw (local-settings t c) (settings-room o n z (t .settings) room);
         };
       })
 
 local-same : (c : LocalCall) (n : ℕ) (s t : State) → Pair n s t → Same n (meant s (Histories.local c)) (meant t (Histories.local c))
 local-same c n s t p =
     subst (λ (x : State). Same n (meant x (Histories.local c)) (meant t (Histories.local c))) (sym (p .like .rest))
-    (local-by n t (s .settings) (p .like .settings) (p .left) (p .right) c)
+    (local-by n t (s .settings) (p .like .settings) (p .room) c)
 
 -- a start that is accepted: the same fresh state
 start-same : (w : List ℕ) (s t : State) (c : Call) → isAcceptedStart c ≡ true → carriedCall w s c ≡ carriedCall w t c
@@ -439,7 +487,11 @@ module _ (s t : List ℕ) (v : SettingsValid s)
       let h : SettingsKey key = record { lower = omega arith; upper = omega arith } in
       rw (ne-eqb j i n) (sym (other-same key h (setting-lies key Limits.passphrase-key h passphrase) (λ e. n (omega (arith, e))))))
 
-pub store-room : (n : ℕ) (s : List ℕ) → Layout.settingEdition s (Layout.setting-offset Limits.passphrase-key) + n ≤ Limits.last-edition
-    → Room n (settingsOf s)
+pub store-room : (n : ℕ) (s t : List ℕ) → let at = Layout.setting-offset Limits.passphrase-key in
+    Grow n (Layout.settingEdition s at) (Layout.settingEdition t at) → Room n (settingsOf s) (settingsOf t)
 unfolding settingOf settingsOf
-store-room n s h = record { long = length-listed _ Limits.setting-count; low = rw (setting-is s Limits.passphrase-key passphrase) h }
+store-room n s t h = record {
+  left-long = length-listed _ Limits.setting-count;
+  right-long = length-listed _ Limits.setting-count;
+  grow = rw (setting-is s Limits.passphrase-key passphrase, setting-is t Limits.passphrase-key passphrase) h;
+}
