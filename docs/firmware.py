@@ -109,6 +109,14 @@ def call_instructions():
                  [(f'`{name}`', what, number(n), number(fast[name][what]), number(words[name][what])) for name in functions() for what, n in small[name].items()])
 
 
+def figures():
+    """What is looked for at -O2, beside what was counted."""
+    fast = counted('thumbv7em-O2')
+    wanted = (('oatcastle_collect', 'a byte', 90), ('oatcastle_receive', 'no byte', 300), ('oatcastle_receive', 'full: no byte', 1200), ('oatcastle_receive', 'a status request', 3000))
+    return table(('Call', 'With', 'At most', 'Counted', 'Had'),
+                 [(f'`{name}`', what, number(most), number(fast[name][what]), 'yes' if fast[name][what] <= most else 'no') for name, what, most in wanted])
+
+
 def header_table():
     """The same figures as lines of a comment."""
     stacks = [bounds(target) for target in ('x86-64-O3', 'thumbv7em-Os', 'thumbv6m-Os', 'riscv32imc-Os')]
@@ -153,7 +161,7 @@ def replays():
 def document():
     """The document in blocks: its text, and whether it depends on the trace's length."""
     return [(TOP, False), (replays(), True), (SIZES + sizes() + '\n' + firmware_size(), False), (RAM + parts(), False), (STACK + stack_bounds(), False),
-            (MEASURED + stack_measured(), True), (INSTRUCTIONS + instructions(), False), (CALLS + call_instructions(), False),
+            (MEASURED + stack_measured(), True), (INSTRUCTIONS + instructions(), False), (CALLS + call_instructions(), False), (FIGURES + figures(), False),
             (LEFT + left(), False)]
 
 
@@ -221,6 +229,12 @@ where such four begin; the whole value once has 60. "Behind it": what the calls 
 - The calls that write a frame put the message together on the stack, and leave it there. These are `oatcastle_requester_request` and `oatcastle_requester_send`, on the processor that has the passphrase, and `oatcastle_line_write`. A shorter message written
   later overwrites its own length alone.
 - Another compiler, level or processor may leave other bytes. Registers and interrupts are not looked at.
+
+'''
+
+
+FIGURES = '''
+Figures that we look for at -O2. Some 3,000 instructions of a status request are of the line layer (docs/CHANGES.md, "Cheaper tests for 12").
 
 '''
 

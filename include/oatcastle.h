@@ -578,8 +578,8 @@ typedef struct oatcastle_collect_answer {
 typedef char oatcastle_collect_answer_has_1_number[sizeof(oatcastle_collect_answer) == 8 ? 1 : -1];
 
 /** Takes the piece's bytes ahead of its first 00 into the reader's part, which is all that it looks
- * at. Receiving the rest of the piece then is receiving the whole piece, and where the piece has no
- * 00 nothing is left to receive.
+ * at. Where neither call is refused, receiving the rest of the piece then is receiving the whole
+ * piece. Where the piece has no 00, nothing is left to receive.
  * A UART's driver collects what comes, in pieces of any length, down to single bytes. At a 00 it
  * calls oatcastle_receive, oatcastle_step or their counted forms with the rest of the piece.
  * @return 0; 12: of the reader's part alone. */
@@ -1006,72 +1006,91 @@ uint32_t oatcastle_rot_crc(const uint8_t *bytes, oatcastle_length bytes_length,
  *
  * ---- Table by docs/firmware.py
  *                                x86-64     M4     M0   RV32  Instructions, M4          -Os     -O2
- * oatcastle_line_start              144      8      8     16                         12,452  12,452
- * oatcastle_line_read               424    560    608    480  no data                 1,448   1,267
+ * oatcastle_line_start              144      8      8     16                         12,451  12,451
+ * oatcastle_line_read               424    560    608    480  no data                 1,449   1,267
  *                                                             4,104 bytes           104,479 104,948
- * oatcastle_line_data               136     16     32      0  no data                    44      43
- *                                                             4,104 bytes            16,481  16,481
+ * oatcastle_line_data               136     16     32      0  no data                    43      44
+ *                                                             4,104 bytes            16,479  16,480
  * oatcastle_line_tail               136      0     16      0                             26      26
  * oatcastle_line_write            4,584  4,936  5,024  4,912  no data                 1,299   1,294
- *                                                             4,104 bytes           120,283 119,925
- * oatcastle_line_checksum           216    320    352    288  no byte                    43      41
- *                                                             4,104 bytes            32,699  32,344
- * oatcastle_start                   176    116    156    112                         88,351  88,286
- * oatcastle_receive               5,080  5,712  6,144  5,920  a byte                  1,046     563
- *                                                             a status request        4,528   3,778
- *                                                             a set of 4,096 bytes  128,500 128,408
- *                                                             a set of key 6         18,438  17,753
- * oatcastle_step                  5,208  5,888  6,408  6,240  a byte                  1,224     759
- *                                                             a status request        4,583   3,851
- *                                                             a set of 4,096 bytes  128,511 128,473
- *                                                             a set of key 6         18,451  17,816
- * oatcastle_clear_counters          136      8      8     16                            124     123
- * oatcastle_receive_counted       5,112  5,840  6,272  6,032  a byte                  1,683     586
- *                                                             a status request        5,169   3,805
- *                                                             a set of 4,096 bytes  129,094 128,426
- *                                                             a set of key 6         19,036  17,769
- * oatcastle_step_counted          5,224  5,976  6,496  6,320  a byte                  1,556     773
- *                                                             a status request        4,919   3,868
- *                                                             a set of 4,096 bytes  128,846 128,491
- *                                                             a set of key 6         18,788  17,834
- * oatcastle_take                    152     40     56      0  37 bytes                  258     258
- *                                                             an image block         20,714  20,714
- * oatcastle_post                    200    196    284    160  no text                   431     139
- *                                                             256 bytes               1,764   1,471
- * oatcastle_set_options             184    148    204    128                            356     158
- * oatcastle_lookup                  360    316    380    368  key 0                     788     397
- *                                                             4,096 bytes            18,238  17,846
- * oatcastle_edition                 296    252    292    320                            444     227
- * oatcastle_save                    344    416    480    384  no setting                371     216
- *                                                             8,483 bytes           119,045 118,204
- * oatcastle_restore                 296    384    464    368  no setting                349     194
- *                                                             8,483 bytes           119,058 118,224
- * oatcastle_signal                  184    148    180     96                            454     196
- * oatcastle_flags                   184    148    180    112                            370     171
- * oatcastle_boot_failure_record     248    220    308    224  none                      757     359
- *                                                             512 bytes               2,868   2,470
- * oatcastle_panic_record            248    220    308    224  none                      755     358
- *                                                             512 bytes               2,868   2,469
+ *                                                             4,104 bytes           120,280 119,923
+ * oatcastle_line_checksum           216    320    352    288  no byte                    41      39
+ *                                                             4,104 bytes            32,698  32,343
+ * oatcastle_start                   176     56     72     64                         88,296  88,286
+ * oatcastle_receive               5,016  5,728  6,224  5,920  a byte                    574     545
+ *                                                             a status request        4,049   3,764
+ *                                                             a set of 4,096 bytes  128,021 128,391
+ *                                                             a set of key 6         18,014  17,749
+ *                                                             no byte                   331     293
+ *                                                             16 bytes                  696     673
+ *                                                             64 bytes                1,228   1,216
+ *                                                             lookup of 4,096       122,565 121,848
+ *                                                             full: no byte           1,188   1,087
+ *                                                             full: 16 bytes          1,553   1,467
+ *                                                             full: 64 bytes          2,084   2,011
+ *                                                             full: a byte            1,428   1,336
+ *                                                             full: status request    4,901   4,554
+ *                                                             full: lookup of 4,096 123,421 122,641
+ *                                                             full: set of 4,096    128,975 129,282
+ * oatcastle_collect                 472    608    680    512  a byte                     61      61
+ *                                                             16 bytes                  161     161
+ *                                                             64 bytes                  486     486
+ * oatcastle_step                  5,128  5,888  6,472  6,224  a byte                    749     722
+ *                                                             a status request        4,102   3,818
+ *                                                             a set of 4,096 bytes  128,081 128,449
+ *                                                             a set of key 6         18,074  17,808
+ * oatcastle_clear_counters          136      8      8     16                            124     124
+ * oatcastle_receive_counted       5,032  5,840  6,336  6,016  a byte                  1,226     578
+ *                                                             a status request        4,704   3,800
+ *                                                             a set of 4,096 bytes  128,681 128,431
+ *                                                             a set of key 6         18,674  17,790
+ *                                                             16 bytes                1,350     706
+ *                                                             64 bytes                1,883   1,252
+ *                                                             full: 16 bytes          2,206   1,501
+ *                                                             full: 64 bytes          2,739   2,046
+ *                                                             full: a byte            2,081   1,371
+ * oatcastle_step_counted          5,144  5,976  6,560  6,304  a byte                  1,081     734
+ *                                                             a status request        4,437   3,834
+ *                                                             a set of 4,096 bytes  128,416 128,466
+ *                                                             a set of key 6         18,409  17,826
+ * oatcastle_take                    152     64     96     48  37 bytes                  307     278
+ *                                                             an image block         20,759  20,731
+ * oatcastle_post                    160    140    204    128  no text                   227     133
+ *                                                             256 bytes               1,534   1,439
+ * oatcastle_set_options             136     32    112     96                            105     106
+ * oatcastle_lookup                  232    184    208    240  key 0                     471     338
+ *                                                             4,096 bytes            17,929  17,801
+ * oatcastle_edition                 200    144    160    192                            304     196
+ * oatcastle_save                    344    416    480    384  no setting                181     180
+ *                                                             8,483 bytes           118,999 118,203
+ * oatcastle_restore                 296    384    464    368  no setting                161     159
+ *                                                             8,483 bytes           119,012 118,224
+ * oatcastle_signal                  136     92    100     64                            202     143
+ * oatcastle_flags                   136     32     88     80                            116     116
+ * oatcastle_boot_failure_record     184    104    216    192  none                      253     253
+ *                                                             512 bytes               2,362   2,362
+ * oatcastle_panic_record            184    104    216    192  none                      251     251
+ *                                                             512 bytes               2,362   2,362
  * oatcastle_requester_start         160     16     16     16                         24,822  24,821
- * oatcastle_requester_request     4,568  4,984  5,136  5,008  no data                 1,631   1,419
- *                                                             4,104 bytes           140,871 140,308
- * oatcastle_requester_interrupt     200    156    212    176                            309     108
- * oatcastle_requester_send        4,616  4,960  5,088  4,976  no data                 1,699   1,386
- *                                                             4,104 bytes           120,404 119,738
- * oatcastle_requester_receive       488    712    792    672  37 bytes                2,381   1,798
- *                                                             4,104 bytes           104,929 104,993
+ * oatcastle_requester_request     4,568  4,984  5,136  5,008  no data                 1,629   1,416
+ *                                                             4,104 bytes           141,147 140,583
+ * oatcastle_requester_interrupt     200    156    212    176                            308     108
+ * oatcastle_requester_send        4,616  4,960  5,088  4,976  no data                 1,701   1,387
+ *                                                             4,104 bytes           120,679 120,013
+ * oatcastle_requester_receive       488    712    792    672  37 bytes                2,481   1,898
+ *                                                             4,104 bytes           105,031 105,095
  * oatcastle_requester_state         216    164    212    160                            428     118
- * oatcastle_addresses               280    160    256    160                            647     636
+ * oatcastle_addresses               280    160    256    160                            646     636
  * oatcastle_plan                    136     16     40     16                             31      23
  * oatcastle_probe_update            144     40     56      0  1 part                     64      64
- *                                                             64 parts                1,861   1,861
- * oatcastle_rot_read              1,168  1,252  1,300  1,312  no payload              1,869   1,795
- *                                                             512 bytes              10,358  10,286
- * oatcastle_rot_payload           1,152  1,188  1,228  1,232  512 bytes               9,993   9,912
+ *                                                             64 parts                1,862   1,861
+ * oatcastle_rot_read              1,168  1,252  1,300  1,312  no payload              1,869   1,796
+ *                                                             512 bytes              10,357  10,285
+ * oatcastle_rot_payload           1,152  1,188  1,228  1,232  512 bytes               9,993   9,911
  * oatcastle_rot_write             1,152  1,212  1,260  1,264  no payload                918     892
  *                                                             512 bytes               6,444   6,419
  * oatcastle_rot_crc               1,040  1,056  1,096  1,088  no byte                   784     784
- *                                                             512 bytes               3,739   3,740
+ *                                                             512 bytes               3,739   3,739
  * ---- End of the table
  */
 

@@ -263,7 +263,7 @@ def planted_layout():
         'a public law on it': (above, {**files, 'proofs.Received': received.replace('\ncounted-each :', '\npub counted-each :')}),
         'a public abbreviation of a law file': (above, {**files, 'proofs.Received': received + '\nabbrev pub at : List ℕ → ℕ\nat s = receivedCount s\n'}),
         'a law by a private abbreviation': (above, {**files, 'proofs.Received': received + '\nabbrev at : List ℕ → ℕ\nat s = receivedCount s\n\npub law : (s : List ℕ) → at s ≡ 0\n'}),
-        'an abbreviation of the promise': (above, {**files, 'specs.Reader': reader.replace('unfoldable pub readerFresh', 'abbrev pub readerFresh')}),
+        'an abbreviation of the promise': (above, {**files, 'specs.Reader': reader.replace('unfoldable pub pushed :', 'abbrev pub pushed :')}),
     }
     if internal_names(above, files)[1]:
         return len(plants), ['layers: the layout is named without a plant']

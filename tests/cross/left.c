@@ -91,7 +91,7 @@ static void say(const char *what, uint32_t n, uint32_t deepest)
 
 enum call {
     PAINT,
-    START, RECEIVE, STEP, RECEIVE_COUNTED, STEP_COUNTED, SINGLY, HALF, FLIPPED, CUT, STATUS,
+    START, RECEIVE, STEP, RECEIVE_COUNTED, STEP_COUNTED, COLLECT, AT_00, SINGLY, HALF, FLIPPED, CUT, STATUS,
     TAKE, POST, OPTIONS, LOOKUP, EDITION, SAVE, RESTORE, SIGNAL, FLAGS, BOOT_FAILURE, PANIC,
     LINE_START, LINE_READ, LINE_CUT, LINE_DATA, LINE_TAIL, LINE_WRITE,
     MAIN_START, REQUEST, MAIN_STATE, DAMAGED, SEND, ANSWER, OTHER, INTERRUPT, REPLY
@@ -120,6 +120,7 @@ static void make(enum call call)
     static oatcastle_requester_receive_answer received;
     static oatcastle_requester_state_answer state;
     static oatcastle_line_read_answer line;
+    static oatcastle_collect_answer collected;
     static oatcastle_line_tail_answer tail;
     static oatcastle_line_write_answer written;
     static const uint8_t damaged[] = {2, 0};
@@ -134,6 +135,8 @@ static void make(enum call call)
     case STEP: bad |= oatcastle_supervisor_step(&supervisor, 0, 0, set, set_length, &read); break;
     case RECEIVE_COUNTED: bad |= oatcastle_supervisor_receive_counted(&supervisor, &counters, 0, 0, set, set_length); break;
     case STEP_COUNTED: bad |= oatcastle_supervisor_step_counted(&supervisor, &counters, 0, 0, set, set_length, &read); break;
+    case COLLECT: bad |= oatcastle_supervisor_collect(&supervisor, set, set_length - 1, &collected); break;
+    case AT_00: bad |= oatcastle_supervisor_receive(&supervisor, 0, 0, set + set_length - 1, 1); break;
     case SINGLY: bad |= oatcastle_supervisor_receive(&supervisor, 0, 0, set + at, 1); break;
     case HALF: bad |= oatcastle_supervisor_receive(&supervisor, 0, 0, set, set_length / 2); break;
     case FLIPPED: bad |= oatcastle_supervisor_receive(&supervisor, 0, 0, flipped, set_length); break;
@@ -246,6 +249,9 @@ static void sets(void)
     try("oatcastle_receive, half a set", HALF, 1, RECORD | READER);
     try("oatcastle_line_tail, half a set received", LINE_TAIL, 1, RECORD | READER);
     try("oatcastle_start, half a set received", START, 1, 0);
+    try("oatcastle_collect, a set up to its 00", COLLECT, 1, READER);
+    try("oatcastle_receive, its 00 behind a collect", AT_00, 0, RECORD);
+    try("oatcastle_start behind that", START, 0, 0);
     singly();
     try("oatcastle_start behind it", START, 0, 0);
 }

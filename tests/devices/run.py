@@ -29,10 +29,10 @@ ENDS = ('supervisor', 'main_end')
 C_FILES = {'supervisor': ('supervisor', 'device', 'settings_file'), 'main_end': ('main_end', 'device')}
 LANGUAGES = ('c', 'rust')
 KEYS = {3: 256, 4: 4096, 5: 4096}
-PATIENCE = 15       # seconds for an answer, however bad the wire
+PATIENCE = 60       # seconds for an answer, however bad the wire
 LEAST_KILLS = 3     # of each end, and requests of a pair, however slow the machine
 LEAST_REQUESTS = 100
-DOWN = 0.6          # seconds without a supervisor, in which a wrong program would answer
+DOWN = 2.0          # seconds without a supervisor, in which a wrong program would answer
 # What a program must not do: the language, the file, what is replaced in it and by what, the program, and the test that must see it.
 MISTAKES = {
     'a save without a rename': [
@@ -96,7 +96,7 @@ def programs():
     OUT.mkdir(parents=True)
     rustc('-O', '--crate-type', 'rlib', '--crate-name', 'oatcastle', '--out-dir', OUT, 'bindings/rust/src/lib.rs', '-l', 'static=oatcastle')
     shared = ('-std=gnu11', '-O1', '-Wall', '-Wextra', '-Werror', '-shared', '-fPIC')
-    run('cc', *shared, 'tests/devices/log_calls.c', '-o', OUT / 'log_calls.so')
+    run('cc', *shared, 'tests/devices/log_calls.c', '-ldl', '-o', OUT / 'log_calls.so')
     return {(language, end): compiled(language, end, SOURCES / language, OUT) for language in LANGUAGES for end in ENDS}
 
 

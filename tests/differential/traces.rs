@@ -254,7 +254,7 @@ impl Ends {
         model::frame(version, sequence, command, &data)
     }
 
-    /// A piece of the frame that is on its way, by a call of the supervisor or a read of the line layer.
+    /// A piece of the frame that is on its way, by a call of the supervisor, a collect or a read of the line layer.
     fn deliver(&mut self) -> Result<(), String> {
         if self.wire.is_empty() {
             self.wire = self.next_frame();
@@ -263,8 +263,9 @@ impl Ends {
         let length = self.random.pick(&[some, some, self.wire.len()]);
         let piece: Vec<u8> = self.wire.drain(..length).collect();
         let line = self.random.percent(5);
-        let call = match self.random.below(2) {
+        let call = match self.random.below(3) {
             _ if line => Call::LineRead { part: READER, piece: piece.clone() },
+            2 if !piece.contains(&0) => Call::Collect { part: READER, piece: piece.clone() },
             0 => Call::Step { image: NO_IMAGE, piece: piece.clone() },
             _ => Call::Receive { image: NO_IMAGE, piece: piece.clone() },
         };

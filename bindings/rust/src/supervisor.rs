@@ -349,9 +349,12 @@ impl<'s> Supervisor<'s> {
         });
     }
 
-    /// Takes the piece's bytes ahead of its first 00 and gives what is left of it. Receiving that then is receiving the whole piece
-    /// (`collect-then-receive` of `crates/supervisor_claims`), and nothing is to be received where nothing is left.
+    /// Takes a piece without a 00, and gives one with a 00 back as it is. Taking it so is receiving it (`collected-receives` of
+    /// `crates/supervisor_claims`), so that nothing is to be received where nothing is left.
     pub(crate) fn collect<'p>(&mut self, piece: &'p [u8]) -> &'p [u8] {
+        if piece.contains(&0) {
+            return piece;
+        }
         let mut answer = raw::CollectAnswer::default();
         let (reader, from) = (lent_mut(&mut self.storage.reader), lent(piece));
         // SAFETY: each pointer is valid for the length behind it, and what is written overlaps nothing else.

@@ -704,7 +704,7 @@ fn served(stream: &[u8], length: usize, receives: Receives) -> (Vec<u8>, Counter
     (replies, counters)
 }
 
-/// A receive collects ahead of the first 00; steps do not, and leave the same.
+/// A receive collects a piece without a 00; steps do not, and leave the same.
 #[test]
 fn pieces_are_received_as_by_steps() {
     let steps: Receives = |supervisor, counters, mut piece| {
