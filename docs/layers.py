@@ -1,46 +1,58 @@
 #!/usr/bin/env python3
-"""Draws docs/layers.svg from crates.txt: a box for each crate, one for the programs of cases, in rows by what it builds on, and an arrow to each
-nearest crate that it builds on.
-Assumes crates.txt, and that every crate has its words below.
+"""Draws docs/layers.svg from crates.txt: a box for each crate, one for the programs of cases, in bands, and an arrow to each nearest crate that it
+builds on. Where an arrow would run through a box, the name stands in words instead.
+Assumes crates.txt, and that every crate has its line in PLACES below.
 
 usage: docs/layers.py draw | check"""
 import pathlib
 import re
 import sys
 
+import drawing
+from drawing import BLUE, GREEN, GREY, SAND, STRIP
+
 HERE = pathlib.Path(__file__).resolve().parent
-CODE, CLAIMS, PROGRAM = '#e3eefb', '#e9f6e6', '#fdf1dc'
-LEGEND = ((CODE, 'code with proved contracts'), (CLAIMS, 'no code: claims over whole lists of calls'), (PROGRAM, 'programs that the gate runs'))
-WIDTH, HEIGHT, GAP, ROW = 176, 54, 22, 112
+LEGEND = ((BLUE, 'code with proved contracts'), (GREEN, 'no code: definitions and claims'), (SAND, 'programs that the gate runs'))
+# the bands from the bottom, and what each is
+BANDS = {
+    'octets': 'on nothing else',
+    'line': 'on bytes alone',
+    'ends': 'both processors, and who reads their wire',
+    'claims': 'what is proved over whole lists of calls',
+    'programs': 'what is run or called',
+}
 # the crates of one box are named by the end of their names
 TOGETHER = '_cases'
-WORDS = {
-    'octets': 'runs of bytes, numbers',
-    'addresses': 'the address plan',
-    'probes': 'the probe list',
-    'rot': 'root-of-trust link',
-    'rot_claims': 'vectors, read back',
-    'line': 'frames, checksum',
-    'line_claims': 'L1 to L12, demand 3',
-    'supervisor': 'state, stores, local calls',
-    'saving': 'settings to an image, back',
-    'saving_claims': 'saved restores, exactly',
-    'responder': 'requests, replies, receive',
-    'supervisor_claims': 'view, demands 1 and 2',
-    'counters': 'the counter block',
-    'counters_claims': 'frames counted',
-    'requester': "main processor's end",
-    'requester_claims': 'numbers, answers',
-    'both_claims': 'both ends, fresh answers',
-    'claims': 'each demand and item',
-    'replay': 'the replay program',
-    'plain': 'the second, plain reader',
-    'plain_claims': 'agrees with the reader',
-    'audit': 'the audit program',
-    '*_cases': 'vectors and edges',
-    'text_lines': 'lines that drive cases',
-    'oatcastle': 'exported for C and Rust',
+# of each crate its band, its row in the band from the bottom, its first and last column, its words
+PLACES = {
+    'octets': ('octets', 0, 1, 5, 'runs of bytes and little-endian numbers on lent slices'),
+    'probes': ('octets', 0, 0, 0, 'the probe list'),
+    'counters': ('octets', 0, 7, 7, 'the counter block'),
+    'addresses': ('line', 0, 0, 0, 'the address plan'),
+    'rot': ('line', 0, 1, 1, 'root-of-trust link'),
+    'line': ('line', 0, 2, 5, 'checksum, COBS frames, messages, the reader and the writer'),
+    'plain': ('ends', 0, 2, 2, 'a second reader'),
+    'requester': ('ends', 0, 4, 4, 'main processor'),
+    'supervisor': ('ends', 0, 5, 5, 'state, local calls'),
+    'saving': ('ends', 1, 5, 5, 'settings to an image'),
+    'responder': ('ends', 1, 6, 6, 'requests, replies'),
+    'line_claims': ('claims', 0, 3, 3, 'what is read back'),
+    'saving_claims': ('claims', 0, 5, 5, 'saved is restored'),
+    'rot_claims': ('claims', 2, 1, 1, 'what is read back'),
+    'plain_claims': ('claims', 1, 2, 2, 'both readers agree'),
+    'requester_claims': ('claims', 1, 4, 4, 'numbers, answers'),
+    'supervisor_claims': ('claims', 1, 6, 6, 'state and replies'),
+    'both_claims': ('claims', 2, 5, 5, 'fresh answers'),
+    'counters_claims': ('claims', 2, 6, 6, 'frames counted'),
+    'claims': ('claims', 3, 0, 7, "each of the customer's demands and requests as one record"),
+    'replay': ('programs', 0, 0, 0, 'answers a stream of requests'),
+    'audit': ('programs', 0, 1, 1, 'lists the frames of a capture'),
+    'oatcastle': ('programs', 0, 3, 3, 'the library for C and Rust'),
+    '*_cases': ('programs', 0, 4, 4, 'run vectors and edges'),
+    'text_lines': ('programs', 0, 5, 5, 'lines of text that drive cases'),
 }
+MARGIN, GUTTER, COLUMN_GAP, ROW_GAP, PAD, NAME, WORDS, STEP = 20, 96, 15, 34, 9, 13, 11, 15
+LEFT = MARGIN + GUTTER
 
 
 def depends():
@@ -48,101 +60,178 @@ def depends():
     found = {}
     for name, others in re.findall(r'^(\w+):(.*)$', (HERE.parent / 'crates.txt').read_text(), re.M):
         found.setdefault('*' + TOGETHER if name.endswith(TOGETHER) else name, set()).update(others.split())
-    return {name: others & found.keys() for name, others in found.items()}
-
-
-def kind(name):
-    if name == '*' + TOGETHER or (HERE.parent / 'crates' / name / 'src' / 'main.rt').exists():
-        return PROGRAM
-    return CLAIMS if name.endswith('claims') else CODE
+    graph = {name: others & found.keys() for name, others in found.items()}
+    for name in sorted(graph.keys() - PLACES.keys()):
+        sys.exit(f'layers: {name} of crates.txt has no line in PLACES of docs/layers.py')
+    for name in sorted(PLACES.keys() - graph.keys()):
+        sys.exit(f'layers: {name} of PLACES is not in crates.txt')
+    return graph
 
 
 def reach(name, graph):
     return set().union(*({other} | reach(other, graph) for other in graph[name])) if graph[name] else set()
 
 
-def level(name, graph):
-    return 1 + max(level(other, graph) for other in graph[name]) if graph[name] else 0
+def nearest(graph):
+    """Each box with those that no other between them builds on."""
+    return {name: sorted(other for other in graph[name] if not any(other in reach(between, graph) for between in graph[name])) for name in graph}
 
 
-def rows(graph):
-    """The arrows to the nearest crates as chains of points, one in each row, and the rows: boxes, and the points (name, name, row) where an arrow passes."""
-    levels = {name: level(name, graph) for name in graph}
-    chains = []
-    for name in sorted(graph):
-        nearest = {other for other in graph[name] if not any(other in reach(between, graph) for between in graph[name])}
-        for other in sorted(nearest):
-            chains.append([name] + [(name, other, row) for row in range(levels[name] - 1, levels[other], -1)] + [other])
-    found = [[] for _ in range(1 + max(levels.values()))]
-    for name in sorted(graph):
-        found[levels[name]].append(name)
-    for chain in chains:
-        for point in chain[1:-1]:
-            found[point[2]].append(point)
-    return chains, found
+def kind(name):
+    folder = HERE.parent / 'crates' / name / 'src'
+    if name == '*' + TOGETHER or (folder / 'main.rt').exists():
+        return SAND
+    return BLUE if any(re.search(r'^(pub(\(crate\))? )?(mod|fn|struct|const|enum) ', path.read_text(), re.M) for path in folder.glob('*.rt')) else GREEN
 
 
-def width(point):
-    return WIDTH if isinstance(point, str) else 12
+class Box:
+    """A crate's place, and the lines in it."""
+
+    def __init__(self, name, others):
+        self.name = name
+        self.band, self.row, self.first, self.last, self.words = PLACES[name]
+        self.others, self.x, self.y, self.wide = others, 0, 0, 0
+
+    def lines(self):
+        told = drawing.wrapped(self.words, WORDS, self.wide - 2 * PAD + 1)
+        if self.others:
+            told += drawing.wrapped(f'on {", ".join(self.others)}', WORDS, self.wide - 2 * PAD)
+        return told
+
+    @property
+    def high(self):
+        return 26 + STEP * len(self.lines()) + 4
+
+    @property
+    def right(self):
+        return self.x + self.wide
+
+    @property
+    def middle(self):
+        return self.x + self.wide / 2
+
+    @property
+    def bottom(self):
+        return self.y + self.high
+
+    def needs(self):
+        return 2 * PAD + max(drawing.wide(self.name, NAME, True), drawing.wide(self.words, WORDS))
 
 
-def spread(row, wanted):
-    """The centres of a row's points, in their order, as near as they can be to the wanted ones."""
-    centres = []
-    for point in row:
-        least = centres[-1] + (width(row[len(centres) - 1]) + width(point)) / 2 + GAP if centres else width(point) / 2
-        centres.append(max(least, wanted[point]))
-    for i in range(len(row) - 2, -1, -1):
-        most = centres[i + 1] - (width(row[i]) + width(row[i + 1])) / 2 - GAP
-        centres[i] = min(centres[i], most) if wanted[row[i]] < centres[i] else centres[i]
-    return dict(zip(row, centres))
+def across(boxes):
+    """Sets the places from left to right: columns as wide as their boxes need; a row of programs has columns of its own."""
+    inner = [box for box in boxes if box.band != 'programs']
+    columns = 1 + max(box.last for box in inner)
+    widths = [max(box.needs() for box in inner if box.first == box.last == column) for column in range(columns)]
+    left = [LEFT + sum(widths[:column]) + COLUMN_GAP * column for column in range(columns)]
+    for box in inner:
+        box.x, box.wide = left[box.first], left[box.last] + widths[box.last] - left[box.first]
+    outer = sorted((box for box in boxes if box.band == 'programs'), key=lambda box: box.first)
+    span = left[-1] + widths[-1] - LEFT
+    each = (span - COLUMN_GAP * (len(outer) - 1)) / len(outer)
+    for number, box in enumerate(outer):
+        box.x, box.wide = LEFT + (each + COLUMN_GAP) * number, each
+    return LEFT + span
 
 
-def placed(chains, found):
-    """The centre of each point, by several passes that bring linked points near each other."""
-    links = {}
-    for chain in chains:
-        for above, below in zip(chain, chain[1:]):
-            links.setdefault(above, []).append(below)
-            links.setdefault(below, []).append(above)
-    at = {}
-    for row in found:
-        at.update(spread(row, {point: 0 for point in row}))
-    for upwards in (True, False) * 12:
-        for row in found if upwards else reversed(found):
-            wanted = {p: sum(at[q] for q in links.get(p, [p])) / len(links.get(p, [p])) for p in row}
-            row.sort(key=lambda p: (wanted[p], str(p)))
-            at.update(spread(row, wanted))
-    left = min(at[p] - width(p) / 2 for p in at)
-    return {p: at[p] - left + 20 for p in at}
+def down(boxes, top):
+    """Sets the places from the top to the bottom; gives the bands and where they end."""
+    strips = []
+    for band in reversed(BANDS):
+        rows = sorted({box.row for box in boxes if box.band == band}, reverse=True)
+        begin, top = top, top + 14
+        for row in rows:
+            members = [box for box in boxes if (box.band, box.row) == (band, row)]
+            for box in members:
+                box.y = top
+            top += max(box.high for box in members) + (ROW_GAP if row != rows[-1] else 14)
+        strips.append((band, begin, top - begin))
+        top += 12
+    return strips, top
+
+
+def ports(boxes, edges):
+    """The ends of each arrow: straight down where the boxes stand above each other, else from side to side, none on another's."""
+    found, taken = {}, {}
+    for name, box in boxes.items():
+        targets = sorted((boxes[other] for other in edges[name]), key=lambda target: target.middle)
+        for number, target in enumerate(targets):
+            below = target.wide <= box.wide and box.x < target.middle < box.right
+            found[name, target.name] = target.middle if below else box.middle + 26 * (number - (len(targets) - 1) / 2)
+    # the farthest first, so that it ends outermost
+    for (name, other), begin in sorted(found.items(), key=lambda item: -abs(item[1] - boxes[item[0][1]].middle)):
+        target = boxes[other]
+        end = min(max(begin, target.x + 14), target.right - 14)
+        side = 1 if begin <= target.middle else -1
+        used = taken.setdefault(other, [])
+        while any(abs(end - place) < 14 for place in used):
+            end += 14 * side
+        used.append(end)
+        if end != begin and abs(end - begin) < 30 and boxes[name].x + 10 < end < boxes[name].right - 10:
+            begin = end
+        found[name, other] = (begin, boxes[name].bottom), (end, target.y)
+    return found
+
+
+def turned(a, b, c):
+    return (b[0] - a[0]) * (c[1] - a[1]) - (b[1] - a[1]) * (c[0] - a[0])
+
+
+def cross(one, other):
+    """Whether two arrows cross inside both."""
+    (a, b), (c, d) = one, other
+    return turned(a, b, c) * turned(a, b, d) < 0 and turned(c, d, a) * turned(c, d, b) < 0
+
+
+def blocked(way, box):
+    """Whether an arrow runs through a box."""
+    x, y, right, bottom = box.x - 4, box.y - 4, box.right + 4, box.bottom + 4
+    return any(cross(way, side) for side in (((x, y), (right, bottom)), ((x, bottom), (right, y))))
+
+
+def layout():
+    """The boxes, the bands, the arrows, and the picture's size. An arrow that a box blocks becomes words, which may move others."""
+    graph = nearest(depends())
+    edges = {name: list(others) for name, others in graph.items()}
+    while True:
+        boxes = {name: Box(name, [other for other in graph[name] if other not in edges[name]]) for name in graph}
+        right = across(boxes.values())
+        strips, bottom = down(boxes.values(), 58)
+        ways = ports(boxes, edges)
+        stopped = [edge for edge, way in ways.items() if way[1][1] <= way[0][1] or any(blocked(way, box) for name, box in boxes.items() if name not in edge)]
+        if not stopped:
+            return boxes, strips, ways, int(right + MARGIN), int(bottom)
+        for name, other in stopped:
+            edges[name].remove(other)
+
+
+def crossings(ways):
+    listed = list(ways.values())
+    return sum(cross(one, other) for number, one in enumerate(listed) for other in listed[:number])
 
 
 def drawn():
-    graph = depends()
-    chains, found = rows(graph)
-    at = placed(chains, found)
-    top = {name: 40 + ROW * (len(found) - 1 - level(name, graph)) for name in graph}
-    wide = int(max(at[point] + width(point) / 2 for point in at) + 20)
-    high = 40 + ROW * len(found) + 26 * len(LEGEND)
-    lines = [f'<svg xmlns="http://www.w3.org/2000/svg" viewBox="0 0 {wide} {high}" width="{wide}" height="{high}" font-family="sans-serif" font-size="14">',
-             '<defs><marker id="a" viewBox="0 0 10 10" refX="9" refY="5" markerWidth="8" markerHeight="8" orient="auto"><path d="M0 0 L10 5 L0 10 z" fill="#445"/></marker></defs>',
-             f'<rect width="{wide}" height="{high}" fill="#ffffff"/>',
-             '<text x="20" y="18" font-size="13" fill="#333">An arrow goes from a crate to the nearest that it builds on; those below are left out.</text>']
-    for chain in chains:
-        points = [(at[chain[0]], top[chain[0]] + HEIGHT)]
-        for point in chain[1:-1]:
-            y = 40 + ROW * (len(found) - 1 - point[2])
-            points += [(at[point], y - 6), (at[point], y + HEIGHT + 6)]
-        points.append((at[chain[-1]], top[chain[-1]]))
-        lines.append(f'<polyline points="{" ".join(f"{x:.0f},{y:.0f}" for x, y in points)}" fill="none" stroke="#445" stroke-width="1.2" marker-end="url(#a)"/>')
-    for name in sorted(graph):
-        x, y = at[name] - WIDTH / 2, top[name]
-        lines += [f'<rect x="{x:.0f}" y="{y}" width="{WIDTH}" height="{HEIGHT}" rx="6" fill="{kind(name)}" stroke="#445" stroke-width="1.2"/>',
-                  f'<text x="{x + 10:.0f}" y="{y + 22}" font-weight="bold">{name}</text>',
-                  f'<text x="{x + 10:.0f}" y="{y + 42}" font-size="12" fill="#333">{WORDS[name]}</text>']
-    for i, (fill, words) in enumerate(LEGEND):
-        y = 40 + ROW * len(found) + 26 * i
-        lines.append(f'<rect x="20" y="{y}" width="18" height="14" fill="{fill}" stroke="#445"/><text x="46" y="{y + 12}" font-size="12">{words}</text>')
+    boxes, strips, ways, width, bottom = layout()
+    lines = drawing.head(width, bottom + 34, 'The crates and what each builds on',
+                         'Five bands of crates, from octets at the bottom to the programs at the top. Each crate points at the nearest that it builds on.')
+    lines.append(f'<defs>{drawing.tip()}</defs>')
+    lines.append(drawing.text(MARGIN, 24, 'The crates, and what each builds on', 16))
+    lines.append(drawing.text(MARGIN, 44, 'An arrow goes to the nearest crate that a crate builds on; those behind it are left out. Some are named in the box instead: "on ..".', 12, GREY))
+    for band, y, high in strips:
+        lines.append(f'<rect x="{MARGIN - 10}" y="{y:g}" width="{width - 2 * MARGIN + 20}" height="{high:g}" rx="8" fill="{STRIP}"/>')
+        lines += [drawing.text(MARGIN, y + 32, band, 14, bold=True), drawing.note(MARGIN, y + 50, BANDS[band], GUTTER - 14, WORDS, step=STEP)[0]]
+    for begin, end in ways.values():
+        lines.append(drawing.arrow([tuple(round(n) for n in begin), tuple(round(n) for n in end)]))
+    for name, box in sorted(boxes.items()):
+        x, y = round(box.x), round(box.y)
+        lines.append(drawing.box(x, y, round(box.wide), round(box.high), kind(name)))
+        lines.append(drawing.text(x + PAD, y + 18, name, NAME, bold=True))
+        lines += [drawing.text(x + PAD, y + 35 + STEP * n, words, WORDS, GREY) for n, words in enumerate(box.lines())]
+    x = MARGIN
+    for fill, words in LEGEND:
+        lines.append(f'<rect x="{x:g}" y="{bottom + 6}" width="18" height="14" fill="{fill}" stroke="{drawing.LINE}"/>')
+        lines.append(drawing.text(x + 26, bottom + 18, words, 12))
+        x += round(56 + drawing.wide(words, 12))
     return '\n'.join(lines + ['</svg>']) + '\n'
 
 
@@ -155,7 +244,9 @@ def main():
     elif picture.read_text() != drawn():
         sys.exit('layers: docs/layers.svg is not what docs/layers.py draws of crates.txt')
     else:
-        print(f'layers: {len(depends())} boxes, as drawn')
+        boxes, _, ways, _, _ = layout()
+        print(f'layers: {len(boxes)} boxes, {len(ways)} arrows that cross {crossings(ways)} times, as drawn')
 
 
-main()
+if __name__ == '__main__':
+    main()
