@@ -16,10 +16,11 @@ HERE = pathlib.Path(__file__).resolve().parent
 FILE = HERE / 'recovery.svg'
 ROOT = HERE.parent
 sys.path.insert(0, str(ROOT / 'tests'))
+import drawing
 from common import made
+from drawing import DEEP_BLUE, GREY, INK, ORANGE, RED, SAND
 REQUESTS = 2500
-MAIN, SUPERVISOR, WIDTH, TOP = 370, 720, 980, 96
-INK, GREY, RED, WAITING, RECOVERY, SIGNAL = '#223', '#667', '#b3261e', '#9cc3ee', '#f3cf7a', '#e08a3c'
+MAIN, SUPERVISOR, WIDTH, TOP = 376, 726, 996, 116
 ASKS = {'0e': 'look up the withdrawn-key list', '08': 'fetch the status', '0a': 'fetch an alert', '09': 'acknowledge the start'}
 
 
@@ -34,12 +35,18 @@ def of(events, start):
     return [(turn, words[len(start):].split()) for turn, words in events if words.startswith(start)]
 
 
+def exchanged(events):
+    """The frames of each end, every one of which is read, in order: the turn and the words of what was put out, and of what was read."""
+    return [list(zip(of(events, f'{sender} puts '), of(events, f'{other} reads '))) for sender, other in (('main', 'supervisor'), ('supervisor', 'main'))]
+
+
 def rows(events):
-    """Where each turn stands: further down by the turns between, within bounds, so that labels have room."""
+    """Where each turn stands: further down by the turns between, within bounds, so that labels have room; below a frame that came at once, more."""
     turns = sorted({turn for turn, _ in events})
+    at_once = {put for frames in exchanged(events) for (put, _), (read, _) in frames if put == read}
     place, found = TOP, {}
     for before, turn in zip([turns[0]] + turns, turns):
-        place += min(max(8 * (turn - before), 30), 44) if turn > before else 0
+        place += min(max(8 * (turn - before), 48 if before in at_once else 30), 48) if turn > before else 0
         found[turn] = place
     return found
 
@@ -56,7 +63,7 @@ class Drawing:
         self.place, self.parts, self.notes = place, [], []
 
     def text(self, x, y, words, fill=INK, anchor='start', more=''):
-        self.parts.append(f'<text x="{x}" y="{y}" fill="{fill}" text-anchor="{anchor}"{more}>{html.escape(words)}</text>')
+        self.parts.append(f'<text x="{x}" y="{y}" fill="{fill}" text-anchor="{anchor}"{more}>{html.escape(words, False)}</text>')
 
     def note(self, side, turn, words, fill=INK):
         self.notes.append((side, turn, words, fill))
@@ -75,21 +82,22 @@ class Drawing:
         colour, dashes, tip = (RED, ' stroke-dasharray="5 4"', 'r') if damaged else (INK, '', 'a')
         self.parts.append(f'<line x1="{begin}" y1="{top}" x2="{end}" y2="{bottom}" stroke="{colour}" stroke-width="1.4"{dashes} marker-end="url(#{tip})"/>')
         if sender == 'main':
-            self.text(begin + 8, top - 4, words, colour, more=' font-size="12" paint-order="stroke" stroke="white" stroke-width="4" stroke-linejoin="round"')
+            self.text(begin + 8, top - 4, words, colour, more=' font-size="12"')
         else:
             self.note('supervisor', put, words)
 
     def band(self, x, width, begin, end, fill):
-        self.parts.append(f'<rect x="{x}" y="{begin}" width="{width}" height="{end - begin}" fill="{fill}"/>')
+        self.parts.append(f'<rect x="{x}" y="{begin}" width="{width}" height="{end - begin}" fill="{fill}" stroke="{GREY}" stroke-width="0.6"/>')
 
 
 def frames(drawing, events):
-    """The arrows: every frame of such a recovery is read, in order."""
+    """The arrows."""
     asked = set()
-    for (put, (number, command, *_)), (read, _) in zip(of(events, 'main puts '), of(events, 'supervisor reads ')):
+    requests, replies = exchanged(events)
+    for (put, (number, command, *_)), (read, _) in requests:
         drawing.frame('main', put, read, f'{number}: {ASKS[command]}' if number not in asked else f'{number} again, the same bytes')
         asked.add(number)
-    for (put, (number, command, data)), (read, heard) in zip(of(events, 'supervisor puts '), of(events, 'main reads ')):
+    for (put, (number, command, data)), (read, heard) in replies:
         drawing.frame('supervisor', put, read, f'replies to {number}: {said(command, data)}', heard[0] == 'failed')
 
 
@@ -113,10 +121,10 @@ def sides(drawing, events):
     bottom = place[last] + 12
     for x in (MAIN, SUPERVISOR):
         drawing.band(x - 1, 2, TOP - 16, bottom + 14, GREY)
-    drawing.band(MAIN - 6, 12, place[first], bottom, WAITING)
-    drawing.band(MAIN - 6, 12, place[interrupt], place[end], RECOVERY)
+    drawing.band(MAIN - 6, 12, place[first], bottom, DEEP_BLUE)
+    drawing.band(MAIN - 6, 12, place[interrupt], place[end], SAND)
     (on, _), (off, _) = of(events, 'signal ')
-    drawing.band(SUPERVISOR + 10, 8, place[on], place[off], SIGNAL)
+    drawing.band(SUPERVISOR + 10, 8, place[on], place[off], ORANGE)
     for turn, words in of(events, 'post '):
         drawing.note('supervisor', turn, f'posts {" ".join(words)}: line signal on')
     drawing.note('supervisor', off, 'no alert waits: line signal off')
@@ -128,18 +136,18 @@ def sides(drawing, events):
 
 
 def head(seed, height):
-    tip = '<marker id="{}" viewBox="0 0 10 10" refX="9" refY="5" markerWidth="7" markerHeight="7" orient="auto"><path d="M0 0 L10 5 L0 10 z" fill="{}"/></marker>'
-    return [
-        f'<svg xmlns="http://www.w3.org/2000/svg" viewBox="0 0 {WIDTH} {height}" width="{WIDTH}" height="{height}" font-family="sans-serif" font-size="13">',
-        f'<defs>{tip.format("a", INK)}{tip.format("r", RED)}</defs>',
-        f'<rect width="{WIDTH}" height="{height}" fill="white"/>',
-        f'<text x="12" y="22" font-size="15" fill="{INK}">One recovery, out of the run of tests/both with seed {seed}</text>',
-        f'<text x="12" y="42" fill="{GREY}">Down: turns of the simulation, not to scale. A number is the request\'s; its reply carries it with the top bit set.</text>',
-        f'<rect x="12" y="54" width="12" height="12" fill="{WAITING}"/><text x="30" y="64" fill="{GREY}">waiting</text>',
-        f'<rect x="96" y="54" width="12" height="12" fill="{RECOVERY}"/><text x="114" y="64" fill="{GREY}">recovery</text>',
-        f'<text x="{MAIN}" y="72" font-weight="bold" text-anchor="middle" fill="{INK}">main processor</text>',
-        f'<text x="{SUPERVISOR}" y="72" font-weight="bold" text-anchor="middle" fill="{INK}">supervisor</text>',
-    ]
+    legend = ((DEEP_BLUE, 'waiting for an answer'), (SAND, 'in a recovery'), (ORANGE, 'line signal on'))
+    lines = drawing.head(WIDTH, height, 'The frames of one recovery on a time line',
+                         'Two time lines, one for each processor. A damaged reply is asked for again, and an alert interrupts the lookup. The lookup then goes out anew.')
+    lines += [
+        f'<defs>{drawing.tip("a", INK)}{drawing.tip("r", RED)}</defs>',
+        drawing.text(12, 26, f'One recovery, out of the run of tests/both with seed {seed}', 16),
+        drawing.text(12, 46, "Down: turns of the simulation, not to scale. A number is the request's; its reply carries it with the top bit set.", 12, GREY)]
+    x = 12
+    for fill, words in legend:
+        lines += [f'<rect x="{x}" y="58" width="14" height="14" fill="{fill}" stroke="{GREY}"/>', drawing.text(x + 22, 70, words, 12)]
+        x += 46 + round(drawing.wide(words, 12))
+    return lines + [drawing.text(x, 92, words, bold=True, anchor='middle') for x, words in ((MAIN, 'main processor'), (SUPERVISOR, 'supervisor'))]
 
 
 def drawn(seed, events):
