@@ -12,6 +12,11 @@ import textwrap
 from xml.sax.saxutils import escape
 
 DOCS = pathlib.Path(__file__).resolve().parent.parent / 'docs'
+sys.path.insert(0, str(DOCS))
+sys.dont_write_bytecode = True
+import drawing  # noqa: E402
+from drawing import DEEP_BLUE, GREY, INK, NAVY, PALE, RED, STEEL, STRIP  # noqa: E402
+
 PICTURE = DOCS / 'bench.svg'
 LABEL, SPAN, COLUMN, ROW, MARGIN = 330, 430, 78, 19, 16
 LEFT = MARGIN + LABEL
@@ -20,7 +25,7 @@ WIDTH = LEFT + SPAN + 4 * COLUMN + 2 * MARGIN
 MARKS = (
     ('ratio to ordinary', 'library ns', 'ordinary ns', ('of', 'ordinary'), 'the library\'s time divided by that of the yardstick "ordinary", plain Rust'),
     ('ratio to strong', 'library ns', 'strong ns', ('of', 'strong'), 'the library\'s time divided by that of the yardstick "strong", Rust made for speed'),
-    ('before to strong', 'before ns', 'strong ns', ('before, of', 'strong'), 'the time of the library before, divided by that of "strong". Before is: '),
+    ('before to strong', 'before ns', 'strong ns', ('before, of', 'strong'), 'the library as it was before, divided by the time of "strong". Before means '),
 )
 GROUPS = {
     '': 'Line layer, main processor\'s end, root-of-trust link',
@@ -51,10 +56,10 @@ def text(x, y, words, **attributes):
 def mark(x, y, number):
     """A wide disc, a small one and a diamond around both, so that none hides another."""
     if number == 0:
-        return f'<circle cx="{x:.1f}" cy="{y:.1f}" r="5.5" fill="#a9c4e0" stroke="#6f93b8"/>'
+        return f'<circle cx="{x:.1f}" cy="{y:.1f}" r="5.5" fill="{DEEP_BLUE}" stroke="{STEEL}" stroke-width="1.3"/>'
     if number == 1:
-        return f'<circle cx="{x:.1f}" cy="{y:.1f}" r="3" fill="#143a66"/>'
-    return f'<path d="M{x:.1f} {y - 7:.1f}l7 7l-7 7l-7 -7z" fill="none" stroke="#b4552d" stroke-width="1.3"/>'
+        return f'<circle cx="{x:.1f}" cy="{y:.1f}" r="3" fill="{NAVY}"/>'
+    return f'<path d="M{x:.1f} {y - 7:.1f}l7 7l-7 7l-7 -7z" fill="none" stroke="{RED}" stroke-width="1.3"/>'
 
 
 def ratios(row):
@@ -68,7 +73,7 @@ def head(rows):
     lines = [words for *_, words in MARKS]
     lines[2:] = [lines[2] + '; '.join(was)] if was else []
     out = [text(MARGIN, 26, 'Time of the library divided by the time of two yardsticks in Rust', font_size=16),
-           text(MARGIN, 46, 'Everything is built with -O for x86-64. The axis is logarithmic. Left of the line at 1 the library is faster.', fill='#555')]
+           text(MARGIN, 46, 'Everything is built with -O for x86-64. The axis is logarithmic. Left of the line at 1 the library is faster.', fill=GREY)]
     y = 68
     for number, words in enumerate(lines):
         out.append(mark(MARGIN + 7, y - 4, number))
@@ -81,10 +86,10 @@ def head(rows):
 def steps(axis, top, bottom):
     """The lines of the axis, with their numbers above and below."""
     for step in axis.steps:
-        x, colour = axis.place(step), '#222' if step == 1 else '#ddd'
+        x, colour = axis.place(step), INK if step == 1 else PALE
         yield f'<line x1="{x:.1f}" y1="{top}" x2="{x:.1f}" y2="{bottom}" stroke="{colour}"/>'
         for y in (top - 6, bottom + 15):
-            yield text(x, y, f'{step:g}', text_anchor='middle', fill='#555')
+            yield text(x, y, f'{step:g}', text_anchor='middle', fill=GREY)
 
 
 def body(rows, axis, y):
@@ -97,7 +102,7 @@ def body(rows, axis, y):
         out.append(text(MARGIN, y, heading, font_weight='bold'))
         for number, (first, second) in enumerate(headings):
             x = LEFT + SPAN + MARGIN + COLUMN * (number + 1) - 8
-            out += [text(x, y, first, text_anchor='end', fill='#555'), text(x, y + 15, second, text_anchor='end', fill='#555')]
+            out += [text(x, y, first, text_anchor='end', fill=GREY), text(x, y + 15, second, text_anchor='end', fill=GREY)]
         top = y + 28
         behind += steps(axis, top, top + ROW * len(group))
         for number, row in enumerate(group):
@@ -110,8 +115,8 @@ def line(row, axis, y, odd):
     """A row: its name, its marks, its numbers."""
     middle = y + ROW / 2
     if odd:
-        yield f'<rect x="{LEFT + SPAN + MARGIN}" y="{y}" width="{4 * COLUMN}" height="{ROW}" fill="#f4f4f4"/>'
-        yield f'<rect x="{MARGIN}" y="{y}" width="{LABEL - 12}" height="{ROW}" fill="#f4f4f4"/>'
+        yield f'<rect x="{LEFT + SPAN + MARGIN}" y="{y}" width="{4 * COLUMN}" height="{ROW}" fill="{STRIP}"/>'
+        yield f'<rect x="{MARGIN}" y="{y}" width="{LABEL - 12}" height="{ROW}" fill="{STRIP}"/>'
     yield text(LEFT - 18, middle + 4, row['case'], text_anchor='end')
     for number, ratio in ratios(row).items():
         yield mark(axis.place(ratio), middle, number)
@@ -125,9 +130,9 @@ def chart(rows):
     top, y = head(rows)
     behind, out, bottom = body(rows, axis, y)
     height = bottom + MARGIN
-    return '\n'.join([
-        f'<svg xmlns="http://www.w3.org/2000/svg" width="{WIDTH}" height="{height}" viewBox="0 0 {WIDTH} {height}" font-family="sans-serif" font-size="12">',
-        f'<rect width="{WIDTH}" height="{height}" fill="white"/>', *top, *behind, *out, '</svg>']) + '\n'
+    first = drawing.head(WIDTH, height, 'Time of the library divided by the time of two yardsticks',
+                         'A row for each case, in three groups. Marks on a logarithmic axis tell the ratio to each yardstick, and the ratio before. The numbers stand beside.', 12)
+    return '\n'.join([*first, *top, *behind, *out, '</svg>']) + '\n'
 
 
 def main():

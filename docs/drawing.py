@@ -6,8 +6,8 @@ import sys
 
 INK, GREY, LINE, PALE, PAPER = '#1f2433', '#555a6b', '#444a5c', '#d9dce3', '#ffffff'
 STRIP, BLUE, DEEP_BLUE, GREEN, DEEP_GREEN, SAND, ROSE = '#f4f5f8', '#e3eefb', '#cfe2f7', '#e9f6e6', '#d6ecd0', '#fdf1dc', '#fbe4e1'
-RED, ORANGE = '#b3261e', '#b8741a'
-COLOURS = {INK, GREY, LINE, PALE, PAPER, STRIP, BLUE, DEEP_BLUE, GREEN, DEEP_GREEN, SAND, ROSE, RED, ORANGE}
+RED, ORANGE, STEEL, TEAL, NAVY = '#b3261e', '#b8741a', '#4a78a8', '#2f8f6b', '#143a66'
+COLOURS = {INK, GREY, LINE, PALE, PAPER, STRIP, BLUE, DEEP_BLUE, GREEN, DEEP_GREEN, SAND, ROSE, RED, ORANGE, STEEL, TEAL, NAVY}
 FONT = 'sans-serif'
 
 # the widths of the characters from the blank to the tilde, in thousandths of the font's size

@@ -21,6 +21,10 @@ from common import serve
 from line_cases import fletcher
 
 DOCS = pathlib.Path(__file__).resolve().parent.parent / 'docs'
+sys.path.insert(0, str(DOCS))
+import drawing  # noqa: E402
+from drawing import GREY, ORANGE, PALE, RED, STEEL, TEAL  # noqa: E402
+
 BEGIN, END = '<!-- tests/checksum_misses.py begins -->\n', '<!-- tests/checksum_misses.py ends -->\n'
 BODY = 4121
 
@@ -81,32 +85,39 @@ def text():
         f'- missed: {total:,}, about {one_in(total, pairs * each)}']) + '\n'
 
 
-LEFT, TOP, STEP = 64, 72, 3
+LEFT, TOP, STEP = 64, 86, 3
 TICKS = (0, 51, 85, 102, 153, 170, 204, 255)
-COLOURS = {3: '#4a78a8', 5: '#4a78a8', 15: '#2f8f6b', 17: '#2f8f6b', 51: '#b8741a', 85: '#b8741a', 255: '#a83232'}
+COLOURS = {3: STEEL, 5: STEEL, 15: TEAL, 17: TEAL, 51: ORANGE, 85: ORANGE, 255: RED}
 LEGEND = {'3 or 5': 3, '15 or 17': 15, '51 or 85': 51, '255': 255}
+
+
+def legend():
+    """A dot of each colour, larger than those of the picture, and what it stands for."""
+    words = 'Common factor of the distance and 255:'
+    yield drawing.text(12, 72, words)
+    x = 40 + round(drawing.wide(words, 12))
+    for label, factor in LEGEND.items():
+        yield f'<circle cx="{x}" cy="68" r="5" fill="{COLOURS[factor]}"/>'
+        yield drawing.text(x + 12, 72, label)
+        x += 50 + round(drawing.wide(label, 12))
 
 
 def picture():
     size = 256 * STEP
     width, height = LEFT + size + 24, TOP + size + 44
     across, down = lambda k: LEFT + STEP * k, lambda c: TOP + size - STEP * c
-    out = [f'<svg xmlns="http://www.w3.org/2000/svg" width="{width}" height="{height}" viewBox="0 0 {width} {height}" '
-           'font-family="sans-serif" font-size="12">',
-           f'<rect width="{width}" height="{height}" fill="white"/>',
-           '<text x="12" y="22" font-size="15">Which changes at two places the checksum misses</text>',
-           '<text x="12" y="40" fill="#555">A dot: this first change, answered by its opposite at this distance, is missed. '
-           'Colours are by the common factor of the distance and 255:</text>']
-    for number, (label, factor) in enumerate(LEGEND.items()):
-        out.append(f'<text x="{LEFT + 90 * number}" y="58" fill="{COLOURS[factor]}">{label}</text>')
+    out = drawing.head(width, height, 'Which changes at two places the checksum misses',
+                       'A dot for each first change and distance at which the checksum stays the same. At distance 255 every change is missed.', 12)
+    out += [drawing.text(12, 26, 'Which changes at two places the checksum misses', 16),
+            drawing.text(12, 48, 'A dot: this first change, answered by its opposite at this distance, is missed.', fill=GREY), *legend()]
     for at in TICKS:
-        out.append(f'<path d="M{across(at)} {down(0)}V{down(255)}M{across(0)} {down(at)}H{across(255)}" stroke="#ddd"/>')
-        out.append(f'<text x="{across(at)}" y="{down(0) + 18}" text-anchor="middle" fill="#555">{at}</text>')
-        out.append(f'<text x="{LEFT - 8}" y="{down(at) + 4}" text-anchor="end" fill="#555">{at}</text>')
+        out.append(f'<path d="M{across(at)} {down(0)}V{down(255)}M{across(0)} {down(at)}H{across(255)}" stroke="{PALE}"/>')
+        out.append(drawing.text(across(at), down(0) + 18, str(at), fill=GREY, anchor='middle'))
+        out.append(drawing.text(LEFT - 8, down(at) + 4, str(at), fill=GREY, anchor='end'))
     for factor, distances, missed in classes()[1:]:
         dots = ''.join(f'M{across(k)} {down(c)}h.1' for k in distances for c in missed)
         out.append(f'<path d="{dots}" stroke="{COLOURS[factor]}" stroke-width="3" stroke-linecap="round"/>')
-    out.append(f'<text x="{across(128)}" y="{height - 8}" text-anchor="middle">distance k</text>')
+    out.append(drawing.text(across(128), height - 8, 'distance k', anchor='middle'))
     out.append(f'<text transform="translate(20 {down(128)}) rotate(-90)" text-anchor="middle">first change, modulo 255</text>')
     return '\n'.join(out + ['</svg>']) + '\n'
 
