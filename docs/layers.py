@@ -8,6 +8,7 @@ import pathlib
 import re
 import sys
 
+sys.dont_write_bytecode = True
 import drawing
 from drawing import BLUE, GREEN, GREY, SAND, STRIP
 
@@ -245,7 +246,7 @@ def main():
         sys.exit('layers: docs/layers.svg is not what docs/layers.py draws of crates.txt')
     else:
         boxes, _, ways, _, _ = layout()
-        print(f'layers: {len(boxes)} boxes, {len(ways)} arrows that cross {crossings(ways)} times, as drawn')
+        print(f'layers: {len(boxes)} boxes, {len(ways)} arrows, crossings: {crossings(ways)}; as drawn')
 
 
 if __name__ == '__main__':

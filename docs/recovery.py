@@ -16,6 +16,7 @@ HERE = pathlib.Path(__file__).resolve().parent
 FILE = HERE / 'recovery.svg'
 ROOT = HERE.parent
 sys.path.insert(0, str(ROOT / 'tests'))
+sys.dont_write_bytecode = True
 import drawing
 from common import made
 from drawing import DEEP_BLUE, GREY, INK, ORANGE, RED, SAND

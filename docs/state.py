@@ -8,6 +8,7 @@ import pathlib
 import re
 import sys
 
+sys.dont_write_bytecode = True
 import drawing
 from drawing import BLUE, DEEP_BLUE, DEEP_GREEN, GREEN, GREY, SAND
 

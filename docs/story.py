@@ -9,12 +9,12 @@ import pathlib
 import subprocess
 import sys
 
+sys.dont_write_bytecode = True
 import drawing
 from drawing import BLUE, GREY, INK, RED, ROSE, SAND, STRIP
 
 ROOT = pathlib.Path(__file__).resolve().parent.parent
 sys.path.insert(0, str(ROOT / 'tests'))
-sys.dont_write_bytecode = True
 from line_cases import message, stuffed  # noqa: E402
 
 TOP_BIT = 1 << 63
