@@ -8,12 +8,15 @@ usage: docs/reading.py NAME            a claim (never-replaced), a record (Item7
        docs/reading.py CRATE.NAME      where several crates have the name (supervisor_claims.NumberDue, requester_claims.cut)
        docs/reading.py CRATE.RECORD.NAME    where several records of a crate have it (claims.Item6.line)
        docs/reading.py --total NAME    the last line alone
-       docs/reading.py --records       CLAIMS.md's table: each record of statements, its fields, and how much each rests on
-       docs/reading.py --records check | write    whether CLAIMS.md has that table; puts it there"""
+       docs/reading.py --records       CLAIMS.md's list: each record of statements, how much each rests on, and its fields
+       docs/reading.py --records check | write    whether CLAIMS.md has that list; puts it there"""
 import re
 import sys
+import textwrap
 
 import sources
+
+WIDTH = 140
 
 
 def functions(source):
@@ -91,31 +94,34 @@ def rest(found, start):
     return order[-2::-1], unknown
 
 
-def record_table(found):
-    """A row for each record of statements: its crate and file, its fields, and the definitions and lines that it rests on."""
-    yield '| Record | Where | Statements | Rests on |'
-    yield '|---|---|---|---|'
+def record_list(found):
+    """An item for each record of statements: its crate and file, the definitions and lines that it rests on, and its fields."""
     for record in sorted(statements(found), key=lambda item: item.place.split(':')[0]):
         order, _ = rest(found, record)
-        fields = [field.name for field in fields_of(record)]
-        yield (f'| `{record.name}` | {record.place.split(":")[0].removesuffix(".antt")} | {", ".join(f"`{name}`" for name in fields)} | '
-               f'{len(order)} definitions, {sum(item.lines for item in order)} lines |')
+        fields = ', '.join(f'`{field.name}`' for field in fields_of(record))
+        yield (f'- `{record.name}` ({record.place.split(":")[0].removesuffix(".antt")}) rests on {len(order)} definitions, {sum(item.lines for item in order)} lines. '
+               f'Statements: {fields}.')
+
+
+def records_block(text):
+    """The list of records in the text of CLAIMS.md: from the section's first item to the next section."""
+    return re.search(r'^## The records\n.*?\n\n(- .*?)(?=\n\n)', text, re.M | re.S).group(1)
 
 
 def records(found, what):
-    """Prints the table; or compares it with CLAIMS.md's, or puts it there."""
-    table = '\n'.join(record_table(found))
+    """Prints the list; or compares it with CLAIMS.md's, or puts it there."""
+    told = '\n'.join('\n'.join(textwrap.wrap(line, WIDTH, subsequent_indent='  ', break_long_words=False, break_on_hyphens=False)) for line in record_list(found))
     if not what:
-        print(table)
+        print(told)
         return 0
     path = sources.ROOT / 'docs' / 'CLAIMS.md'
     text = path.read_text()
-    old = re.search(r'^\| Record \| Where \|.*(?:\n\|.*)*$', text, re.M)
+    old = records_block(text)
     if what == ['write']:
-        path.write_text(text.replace(old.group(0), table))
+        path.write_text(text.replace(old, told))
         return 0
-    print(f'reading: the table of records in docs/CLAIMS.md is {"up to date" if old and old.group(0) == table else "not what docs/reading.py --records prints"}')
-    return 0 if old and old.group(0) == table else 1
+    print(f'reading: the list of records in docs/CLAIMS.md is {"up to date" if old == told else "not what docs/reading.py --records prints"}')
+    return 0 if old == told else 1
 
 
 def same(found, items):
