@@ -47,8 +47,9 @@ def sizes():
 def firmware_size():
     text, data, bss = re.search(r'^ +(\d+)\s+(\d+)\s+(\d+)\s+\d+\s+\w+\s+\S+firmware\.elf$', log('firmware'), re.M).groups()
     stack = int(re.search(r'stack_size : (\d+)K', (ROOT / 'examples/firmware/board.ld').read_text()).group(1)) * 1024
-    return (f'The whole of `examples/firmware`, with its driver, startup code, start data, fake UART, far ends and text, has {number(text)} bytes of code and constants, {number(data)} of data and '
-            f'{number(int(bss) - stack)} of zeroed memory, beside the {number(stack)} bytes that its linker script gives to the stack.\n')
+    return (f'The whole of `examples/firmware` is its driver, startup code, start data, fake UART, far ends and text.\n'
+            f'It has {number(text)} bytes of code and constants, {number(data)} of data and {number(int(bss) - stack)} of zeroed memory.\n'
+            f'Its linker script gives {number(stack)} bytes to the stack beside that.\n')
 
 
 def parts():
@@ -167,18 +168,29 @@ def document():
 
 TOP = '''# On the firmware's processor
 
-`cross/build` makes the library for Cortex-M, riscv32 and AArch64 (`cross/README.md`), `tests/cross/run` tests it under qemu (`tests/cross/README.md`), `make -C examples/firmware run` builds and runs a firmware for a
-bare Cortex-M4. `docs/firmware.py write` makes this page, figures and all.
+`docs/firmware.py write` makes this page, figures and all. Three commands stand behind it:
+
+- `cross/build` makes the library for Cortex-M, riscv32 and AArch64 (`cross/README.md`).
+- `tests/cross/run` tests it under qemu (`tests/cross/README.md`).
+- `make -C examples/firmware run` builds and runs a firmware for a bare Cortex-M4.
 
 ## What is proved, and what is only tested
 
-- **Proved**: the module that `rt staticlib` compiles, on x86-64, with a `usize` of 64 bits. The verdict is for that: every function of the crates ends, stays in its memory and meets its contract.
-- **Not proved**: anything on another processor. There the same module, as its object on x86-64 shows byte for byte, is compiled by the same clang. Between the verdict and the code stand clang's back end for that processor, the three
-  changes of the module's text (`cross/README.md`), addresses of 32 bits under lengths of 64, the calling convention of the C compiler, the firmware's memcpy, memmove and memset, and for ARMv6-M two
-  functions of `cross/thumbv6m.c`. No proof covers these.
-- **Tested on a target**: what the table below lists. The differential test compares each of these calls with an independent model on x86-64; the target must then return the same number and leave the same
-  bytes, in everything lent and for 16 bytes behind. Runs of bytes are lent at odd addresses.
-- **The example's driver** is tested too, not proved: under qemu, with far ends that babble, stall and send overlong frames, and with planted mistakes that they must see (`tests/cross/README.md`).
+- **Proved**: the module that `rt staticlib` compiles, on x86-64, with a `usize` of 64 bits. The verdict is for that: every function of the
+  crates ends, stays in its memory and meets its contract.
+- **Not proved**: anything on another processor. There the same module, as its object on x86-64 shows byte for byte, is compiled by the
+  same clang. No proof covers what stands between the verdict and the code:
+  - clang's back end for that processor
+  - the three changes of the module's text (`cross/README.md`)
+  - addresses of 32 bits under lengths of 64
+  - the calling convention of the C compiler
+  - the firmware's memcpy, memmove and memset
+  - for ARMv6-M two functions of `cross/thumbv6m.c`
+- **Tested on a target**: what the table below lists. The differential test compares each of these calls with an independent model on
+  x86-64. The target must then return the same number and leave the same bytes, in everything lent and for 16 bytes behind. Runs of bytes
+  are lent at odd addresses.
+- **The example's driver** is tested too, not proved (`tests/cross/README.md`). It runs under qemu, with far ends that babble, stall and
+  send overlong frames. They must see planted mistakes.
 - **Not tested**: a real chip. qemu has the instructions, not the timing, caches or buses.
 - **Nowhere proved**: how much stack or time a call takes. The figures below are clang's frames, measurements, and qemu's counts.
 
@@ -198,8 +210,8 @@ The library has no memory of its own. Start data (`OATCASTLE_START_LENGTH`) are 
 STACK = '''
 ## Stack of each call, in bytes
 
-At most so much, by clang's frames along the longest way of calls (`cross/stack.py`); no call is recursive or goes by a pointer. Add the caller's arguments, what memcpy,
-memmove and memset use, and the interrupts.
+At most so much, by clang's frames along the longest way of calls (`cross/stack.py`); no call is recursive or goes by a pointer. Add the
+caller's arguments, what memcpy, memmove and memset use, and the interrupts.
 
 '''
 MEASURED = '''
@@ -209,32 +221,40 @@ Measured: the deepest byte that a call of the trace wrote, its arguments and the
 INSTRUCTIONS = '''
 ## Instructions on a Cortex-M4
 
-By qemu's instruction count (`tests/cross/count.c`), memcpy and memset byte by byte included. A processor takes at least a cycle for each. Byte by byte: one call for each byte of the frame.
+By qemu's instruction count (`tests/cross/count.c`), memcpy and memset byte by byte included. A processor takes at least a cycle for each.
+Byte by byte: one call for each byte of the frame.
 
 '''
 CALLS = '''
-Each call by itself, with short and with long bytes where it depends on them. The supervisor is as started, unless it says "full": 64 items with data, every setting at its longest, 8 alerts and both
-records. "So many bytes" of a receive or a collect is a piece without a 00. The last column has memcpy, memmove and memset by words (`tests/cross/memory_words.c`), as a C library has them.
-`include/oatcastle.h` has the first two columns and the stack in one table.
+Each call by itself, with short and with long bytes where it depends on them. The supervisor is as started, unless it says "full": 64 items
+with data, every setting at its longest, 8 alerts and both records. "So many bytes" of a receive or a collect is a piece without a 00. The
+last column has memcpy, memmove and memset by words (`tests/cross/memory_words.c`), as a C library has them. `include/oatcastle.h` has the
+first two columns and the stack in one table.
 
 '''
 LEFT = '''
 ## What is left of a passphrase below the stack pointer
 
-Looked at, not promised: a passphrase of 63 bytes on a bare Cortex-M4 (`tests/cross/left.c`). After each call the 8,192 bytes below the caller's stack pointer are searched for any four bytes of it in a row. The table has the places
-where such four begin; the whole value once has 60. "Behind it": what the calls before left is not painted over.
+Looked at, not promised: a passphrase of 63 bytes on a bare Cortex-M4 (`tests/cross/left.c`). After each call the 8,192 bytes below the
+caller's stack pointer are searched for any four bytes of it in a row. The table has the places where such four begin; the whole value once
+has 60. "Behind it": what the calls before left is not painted over.
 
-- None is left of a good set by the calls that receive: `oatcastle_receive`, `oatcastle_step`, both with counters, and `oatcastle_line_read`. `oatcastle_requester_receive` of its answer leaves none either, nor does `oatcastle_receive` of a set with a flipped bit.
-- A set whose first bytes were lost may have eight bytes of the value in the sequence's place. `oatcastle_receive` and `oatcastle_line_read` of it leave those eight, in several places. So does `oatcastle_requester_receive` of the reply.
-- The calls that write a frame put the message together on the stack, and leave it there. These are `oatcastle_requester_request` and `oatcastle_requester_send`, on the processor that has the passphrase, and `oatcastle_line_write`. A shorter message written
-  later overwrites its own length alone.
+- None is left of a good set by the calls that receive: `oatcastle_receive`, `oatcastle_step`, both with counters, and
+  `oatcastle_line_read`. `oatcastle_requester_receive` of its answer leaves none either, nor does `oatcastle_receive` of a set with a
+  flipped bit.
+- A set whose first bytes were lost may have eight bytes of the value in the sequence's place. `oatcastle_receive` and
+  `oatcastle_line_read` of it leave those eight, in several places. So does `oatcastle_requester_receive` of the reply.
+- The calls that write a frame put the message together on the stack, and leave it there. These are `oatcastle_requester_request` and
+  `oatcastle_requester_send`, on the processor that has the passphrase, and `oatcastle_line_write`. A shorter message written later
+  overwrites its own length alone.
 - Another compiler, level or processor may leave other bytes. Registers and interrupts are not looked at.
 
 '''
 
 
 FIGURES = '''
-Figures that we look for at -O2. Some 3,000 instructions of a status request are of the line layer (docs/CHANGES.md, "Cheaper tests for 12").
+Figures that we look for at -O2. Some 3,000 instructions of a status request are of the line layer (docs/CHANGES.md, "Cheaper tests for
+12").
 
 '''
 
