@@ -1,6 +1,7 @@
 #!/usr/bin/env python3
-"""Prints, for each function that an archive of cross/build exports, a bound on the stack of a call: the longest way through the calls of the object, each
-function with the frame that clang gave it; on x86-64 also each return address, and the 128 bytes that the last function may use below its frame.
+"""Prints a bound on the stack of a call, for each function that an archive of cross/build exports. It is the longest way through the calls
+of the object, each function with the frame that clang gave it. On x86-64 it has also each return address, and the 128 bytes that the last
+function may use below its frame.
 memcpy, memmove and memset are not in it, nor are the caller's arguments. A cycle of calls, or a function's address used otherwise, is an error.
 Assumes object/oatcastle.o and the files object/*.su of the target, and readelf.
 

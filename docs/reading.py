@@ -1,6 +1,7 @@
 #!/usr/bin/env python3
-"""Prints what must be believed for a claim, a promise or a record: every definition of this repository that its statement rests on, at any remove, each
-once, callee after caller, with file and line and its own lines; then the words that could not be resolved; last how many definitions and lines that is.
+"""Prints what must be believed for a claim, a promise or a record: every definition of this repository that its statement rests on, at any
+remove. Each comes once, callee after caller, with file and line and its own lines. Then come the words that could not be resolved, and last
+how many definitions and lines that is.
 Comments are not counted. Works from the sources (docs/sources.py); names of the kit's libraries are not listed.
 Assumes that the crates check.
 

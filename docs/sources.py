@@ -1,4 +1,5 @@
-"""The definitions, laws and contracts of crates/, as their sources have them: each item of a file of antt with its place, its text and the names that it rests on.
+"""The definitions, laws and contracts of crates/, as their sources have them. Each item of a file of antt has its place, its text and the
+names that it rests on.
 Assumes the layout of crates.txt, and files as `rt fmt` lays them out: an import on one line, an item's lines indented deeper than its head."""
 import pathlib
 import re

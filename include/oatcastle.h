@@ -9,22 +9,26 @@
  *
  * @par Result
  * 0: the call was carried out. Any other number is a refusal, one of OATCASTLE_NO_ROOM to
- * OATCASTLE_RESTORE_BYTES_AFTER below; which numbers a call can return stands with it, and
- * oatcastle_refusal_text has words for each. Where several apply, the first of
- * 12, 13, 9, 17, 11, 10, 14, 8 is returned; the oatcastle_rot_ calls have an order of their own,
- * which stands with them, and oatcastle_restore tests 12, then the image, 30 to 35.
- * A refused call leaves every byte and every number that it was lent as it was; only
+ * OATCASTLE_RESTORE_BYTES_AFTER below. Each call says which numbers it can return, and
+ * oatcastle_refusal_text has words for each. Where several apply, the first of these is returned:
+ * - 12, 13, 9, 17, 11, 10, 14, 8, of most calls
+ * - an order of their own, which stands with them, of the oatcastle_rot_ calls
+ * - 12, then the image's 30 to 35, of oatcastle_restore
+ *
+ * A refused call leaves every byte and every number that it was lent as it was. Only
  * oatcastle_restore writes its answer when it refuses: a fault's offset.
  * @par Memory
- * The caller owns all memory; the library allocates nothing, keeps no pointer after a call and has
- * no state of its own. All state lies in the parts that the caller lends: a reader, an outbox, a
- * factory store, a settings store and registers for a supervisor, a reader and a requester for the
- * main processor's end, or a reader alone for the line layer. Nobody but these calls writes a part
- * between its start and its last use.
+ * The caller owns all memory. The library allocates nothing, keeps no pointer after a call and has
+ * no state of its own. All state lies in the parts that the caller lends:
+ * - for a supervisor a reader, an outbox, a factory store, a settings store and registers
+ * - for the main processor's end a reader and a requester
+ * - for the line layer a reader alone
+ *
+ * Nobody but these calls writes a part between its start and its last use.
  * @par Slices
  * A lent run of bytes is a pointer and a length. The pointer is valid for the length, and not NULL
- * even where the length is 0: NULL with length 0 is no run of these functions (those of
- * oatcastle_parts.h take it for an empty one). A part may be longer than its published length:
+ * even where the length is 0. NULL with length 0 is no run of these functions; those of
+ * oatcastle_parts.h take it for an empty one. A part may be longer than its published length:
  * bytes past it are neither read nor written.
  * @par Overlap
  * No two runs that are lent to one call overlap, unless the call writes neither of them. An answer
@@ -32,10 +36,13 @@
  * nothing that is read.
  * @par Before the first start
  * Parts of any contents may be lent to a start. Parts that are all 0, as static memory is, are no
- * started supervisor: the calls that are lent the factory store (receive, step, receive_counted,
- * step_counted, lookup, edition) answer 12; the others find nothing pending, no signal, no flag, no
- * record and no setting, and an alert, options or settings given then are lost at the start. A
- * reader and a requester that are all 0 are as after their start: a struct of zeros takes an
+ * started supervisor:
+ * - The calls that are lent the factory store answer 12: receive, step, receive_counted,
+ *   step_counted, lookup, edition.
+ * - The others find nothing pending, no signal, no flag, no record and no setting.
+ * - An alert, options or settings given then are lost at the start.
+ *
+ * A reader and a requester that are all 0 are as after their start. So a struct of zeros takes an
  * oatcastle_collect where an oatcastle_receive answers 12. Parts of other contents answer 12, or by
  * whatever their bytes mean.
  * @par Threads

@@ -1,7 +1,7 @@
 #!/usr/bin/env python3
-"""Writes include/oatcastle_parts.h from the declarations of include/oatcastle.h: a struct for the supervisor's five parts, one for the main
-processor's two and one for a line reader alone, and for each function that takes such parts an inline function that takes the struct in
-their place. Assumes the layout of the header's declarations.
+"""Writes include/oatcastle_parts.h from the declarations of include/oatcastle.h. It has a struct for the supervisor's five parts, one for
+the main processor's two and one for a line reader alone. Each function that takes such parts gets an inline function that takes the struct
+in their place. Assumes the layout of the header's declarations.
 
 usage: include/parts.py [write|check]      check: says whether the file is as this would write it"""
 import pathlib

@@ -7,9 +7,9 @@ usage: tests/checksum_misses.py write | check
 write: puts both in place
 check: compares them with what is worked out
 
-All is counted by checksums, worked out by the model of tests/line_cases.py: for each distance from 1 to 255 and each first change modulo 255, that
-of zeros against that of the zeros so changed, with the opposite change at the second place; for the choices of bytes, those of all 65,536 pairs of
-bytes at the two places, zeros between."""
+All is counted by checksums, worked out by the model of tests/line_cases.py. For each distance from 1 to 255 and each first change modulo
+255, that of zeros is compared with that of the zeros so changed. The second place has the opposite change. For the choices of bytes, all
+65,536 pairs of bytes stand at the two places, zeros between."""
 import collections
 import functools
 import math

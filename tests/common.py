@@ -1,5 +1,5 @@
-"""What the programs of this folder share: the texts of cases, the command line, the comparison with a crate's files, files that must be made first, and
-the comments of the header's constants.
+"""What the programs of this folder share: the texts of cases, the command line and the comparison with a crate's files. Also files that
+must be made first, and the comments of the header's constants.
 Assumes that each stands in this folder, and the crates beside it."""
 import functools
 import os

@@ -1,6 +1,6 @@
 #!/usr/bin/env python3
-"""Checks that every edit applies to the sources as they are and is named in docs/PROMISES.md or docs/CLAIMS.md: those of crates/*/must-fail,
-which the gate tries, and of tests/mutants. Assumes the form that tests/mutants/run reads, and asks its function.
+"""Checks that every edit applies to the sources as they are and is named in docs/PROMISES.md or docs/CLAIMS.md. These are those of
+crates/*/must-fail, which the gate tries, and of tests/mutants. Assumes the form that tests/mutants/run reads, and asks its function.
 
 usage: tests/edits.py"""
 import importlib.machinery

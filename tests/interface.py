@@ -1,16 +1,18 @@
 #!/usr/bin/env python3
-"""Compares the C interface where it is written down: the functions of crates/oatcastle/src, include/oatcastle.h and
-bindings/rust/src/raw.rs by name, parameters' names and kinds; the answers, by how many numbers the crates write and by the fields of
-header and wrapper; the records that they take, by their fields; every #define of the header, and the wrapper's numbers, with the crates;
-the texts of refusals in header and wrapper; the version in VERSION, header, wrapper and CHANGELOG.md. Every constant of the crates behind
-them must be named in the code of a function, or in another constant that is: a number that no function names is held by no contract.
+"""Compares the C interface where it is written down:
+- the functions of crates/oatcastle/src, include/oatcastle.h and bindings/rust/src/raw.rs by name, parameters' names and kinds;
+- the answers, by how many numbers the crates write and by the fields of header and wrapper; the records that they take, by their fields;
+- every #define of the header, and the wrapper's numbers, with the crates; the texts of refusals in header and wrapper;
+- the version in VERSION, header, wrapper and CHANGELOG.md.
+Every constant of the crates behind them must be named in the code of a function, or in another constant that is. A number that no function
+names is held by no contract.
 Assumes the layouts of these files as `rt fmt` and their own style have them.
 
 usage: tests/interface.py [planted]
 
-planted: changes each #define, each parameter, each field of an answer or a record, each text of a refusal, each number of the wrapper and
-each place of the version in turn, takes each constant of the crates out of the functions, in memory alone, and asks that every change be
-seen"""
+planted: changes one thing after the other, in memory alone, and asks that every change be seen. These are each #define, parameter, field of
+an answer or a record, text of a refusal, number of the wrapper and place of the version. Takes each constant of the crates out of the
+functions too"""
 import functools
 import pathlib
 import re

@@ -1,16 +1,18 @@
 #!/usr/bin/env python3
 """Checks that the crates above the line layer, `line_claims` too, name of it only what its public contracts rest on:
   - its public types;
-  - the modules of its specs that the `ensures` of a public function cites, and those that these import, but not specs/ReaderLayout,
-    which says where the bytes of a frame stand in the reader's state;
-  - the files of laws in its proofs whose public statements name only such modules and files. The public statements of a file are the
-    types of its `pub` names, its `pub` definitions whole, the parameters of the modules that they stand in, and what else of the file
-    these name. What a proof cites is its own affair;
+  - the modules of its specs that the `ensures` of a public function cites, and those that these import. specs/ReaderLayout, which says
+    where the bytes of a frame stand in the reader's state, is not among them;
+  - the files of laws in its proofs whose public statements name only such modules and files. The public statements of a file are the types
+    of its `pub` names and its `pub` definitions whole. The parameters of the modules that they stand in, and what else of the file these
+    name, are among them. What a proof cites is its own affair;
   - its records of statements with their proofs (specs/Item.., proofs/Proved).
-They unfold none of these definitions that the layout stands in, and none of these that is an `abbrev` names the layout, so that another
-layout leaves them as they are. What breaks this is printed with its place, and the check fails.
-Checks too that in no crate the modules of the code, or those of specs/, stand in a cycle by what each names of the others; that no crate with code
-depends on a crate of claims; and that the code of `plain`, the second reader, names nothing of the line layer's code.
+They unfold none of these definitions that the layout stands in, and none of these that is an `abbrev` names the layout. So another layout
+leaves them as they are. What breaks this is printed with its place, and the check fails.
+Checks too:
+  - In no crate the modules of the code, or those of specs/, stand in a cycle by what each names of the others.
+  - No crate with code depends on a crate of claims.
+  - The code of `plain`, the second reader, names nothing of the line layer's code.
 Assumes the layout of crates.txt, and uses, paths and contracts as `rt fmt` lays them out.
 
 usage: tests/layers.py            prints what is wrong, or how much was looked at

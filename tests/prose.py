@@ -5,7 +5,8 @@
 - docs/GLOSSARY.md has an entry for each abbreviation in capitals, each sample (L12), and each word of WORDS that a document uses;
 - every entry of the glossary is used by some other document;
 - docs/README.md has each document's minutes, at 200 words a minute.
-Prints each fault, then for each document its longest sentence and widest cell, its wide lines and its words without an entry; any fault fails the check.
+Prints each fault, then for each document its longest sentence and widest cell, its wide lines and its words without an entry. Any fault
+fails the check.
 EXCEPTIONS has what an older document is allowed: exactly so many faults of a kind, so that the number can only fall.
 Assumes Markdown as these documents have it: fenced code, code indented by four behind an empty line, tables with a | at both ends.
 

@@ -1,7 +1,10 @@
 #!/usr/bin/env python3
-"""Tries docs/reading.py on two claims and a promise whose lists are written out here by hand, from the sources; that each list has a definition behind every one
-that names it; that a word which stands for nothing is reported; and that a name of several claims is, with the crate of each, but not one claim that several
-records hold, and that docs/CLAIMS.md gives no such name without its crate.
+"""Tries docs/reading.py:
+- on two claims and a promise, whose lists are written out here by hand, from the sources;
+- each list has a definition behind every one that names it;
+- a word which stands for nothing is reported;
+- a name of several claims is reported with the crate of each, but not one claim that several records hold;
+- docs/CLAIMS.md gives no such name without its crate.
 Assumes docs/sources.py.
 
 usage: tests/reading.py"""

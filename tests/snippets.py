@@ -1,6 +1,7 @@
 #!/usr/bin/env python3
-"""Compiles and runs every snippet: the blocks ```c and ```rust of README.md and bindings/rust/README.md, and the blocks @code of the headers. Each runs on frames with
-spare 00s, damaged frames and further frames around them, cut at every place; what it hands out and sends is compared with what the papers say, and with the replay program.
+"""Compiles and runs every snippet: the blocks ```c and ```rust of README.md and bindings/rust/README.md, and the blocks @code of the
+headers. Each runs on frames with spare 00s, damaged frames and further frames around them, cut at every place. What it hands out and sends
+is compared with what the papers say, and with the replay program.
 One with a main reads standard input; any other has a driver tests/snippets/NAME.c or NAME.rs for a function NAME of it, and one without is an error.
 Then each mistake of MISTAKES is put into its snippet, and must be seen.
 Assumes cc, rustc, target/bin/replay and target/staticlib/liboatcastle.a.

@@ -3,8 +3,10 @@
 - specs/ of a crate has definitions and statements alone: no law, no proof text, no import of proofs/;
 - a file of statements (Demand.., Item.., BothEnds) has records of statements, and proofs/ exactly one element of each, with a proof for each field;
 - every name that docs/CLAIMS.md gives exists, and every name with a capital inside (`takePromise`) that another document gives;
-- each row of `did`, of `localRow` and of `mainDid` (supervisor_claims, specs/Histories and specs/LocalCalls; requester_claims, specs/Histories) cites the definition, with the
-  arguments, of the first `ensures` of the call that it stands for; a row of `localRow` cites all that this definition settles, and may change the part that it leaves, else nothing;
+- each row of `did`, of `localRow` and of `mainDid` cites the definition, with the arguments, of the first `ensures` of the call that it
+  stands for.
+  These are in specs/Histories and specs/LocalCalls of supervisor_claims, and in specs/Histories of requester_claims.
+  A row of `localRow` cites all that this definition settles, and may change the part that it leaves, else nothing;
 - a public function of a library that hands out a part of lent bytes has an `ensures` on where it begins (`.ptr`).
 Assumes the sources as `rt fmt` lays them out (docs/sources.py).
 

@@ -1,5 +1,7 @@
-/* The board as the firmware sees it: a UART with one interrupt, a radio, and what the main loop does besides. far_end.c fakes all of it; a product has its chip's registers here.
- * Assumes that the UART raises its interrupt as long as a byte has come and is not read, or a byte is wanted for sending and there is room for it. */
+/* The board as the firmware sees it: a UART with one interrupt, a radio, and what the main loop
+ * does besides. far_end.c fakes all of it; a product has its chip's registers here.
+ * Assumes that the UART raises its interrupt as long as a byte has come and is not read. So it does
+ * while a byte is wanted for sending and there is room for it. */
 #ifndef BOARD_H
 #define BOARD_H
 

@@ -1,4 +1,5 @@
-/* The far end of the wire and a fake of the UART between: at each tick of SysTick, the time of a byte, the far end may send a byte and take one.
+/* The far end of the wire and a fake of the UART between. At each tick of SysTick, the time of a byte, the far end may send a byte
+ * and take one.
  * The command line names one of the far ends below. It does its steps and ends qemu, with 0 if every byte that it took was the one it awaited.
  * Assumes a Cortex-M with semihosting, a clock of 25 MHz, and the stack of board.ld. */
 #include "board.h"

@@ -1,4 +1,5 @@
-// Defines what the main processor's end may rely on of keys 3, 4 and 5: the value when a lookup was put out, or a newer one, and that of its own set that was answered.
+// Defines what the main processor's end may rely on of keys 3, 4 and 5. That is the value when a lookup was put out, or a newer one, and
+// that of its own set that was answered.
 // Assumes the hypotheses `WireUnder`, `SetsInOrder` and `GoesOn` of `never-replaced`, `value-asked` and `set-then-got`.
 
 use crate::claims::{Claim, Claims};

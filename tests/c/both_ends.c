@@ -1,5 +1,6 @@
-/* A caller's program over both ends: the main processor sets the passphrase, looks key 0 up and asks for the BSU, over a wire that damages a frame and loses another; the supervisor
- * posts an alert meanwhile. Prints what each side learns and does. Assumes the static library. Ends with 1 at the first refusal. */
+/* A caller's program over both ends. The main processor sets the passphrase, looks key 0 up and asks for the BSU, over a wire that damages
+ * a frame and loses another. The supervisor posts an alert meanwhile. Prints what each side learns and does. Assumes the static library.
+ * Ends with 1 at the first refusal. */
 #include <stdio.h>
 #include <stdlib.h>
 #include <string.h>

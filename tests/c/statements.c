@@ -1,5 +1,6 @@
-/* Holds the headers' sentences about memory and answers to the library: parts before their first start, NULL with length 0, a further start, collecting, what a refused call leaves,
- * what a step tells, where the passphrase lies, and what is outstanding. Assumes the static library. Ends with 1 at the first sentence that does not hold. */
+/* Holds the headers' sentences about memory and answers to the library. They are about parts before their first start, NULL with length 0,
+ * a further start and collecting. They say what a refused call leaves, what a step tells, where the passphrase lies, and what is
+ * outstanding. Assumes the static library. Ends with 1 at the first sentence that does not hold. */
 #include <stdio.h>
 #include <stdlib.h>
 #include <string.h>

@@ -1,8 +1,9 @@
 #!/usr/bin/env python3
-"""Writes, from the declarations of include/oatcastle.h alone, the two C files by which tests/cross records and replays calls: OUT/calls.h, the table of
-functions with their parameters and one caller for each, and OUT/wrappers.c, one recording function for each. Prints their names, one to a line.
-Assumes the header's layout as tests/interface.py does: a pointer and behind it NAME_length or NAME_count is a run; NAME[LENGTH] is a run of that
-length; any other pointer leads to one record, as an answer's does; everything else is a number.
+"""Writes the two C files by which tests/cross records and replays calls, from the declarations of include/oatcastle.h alone. OUT/calls.h is
+the table of functions with their parameters and one caller for each. OUT/wrappers.c has one recording function for each. Prints their
+names, one to a line.
+Assumes the header's layout as tests/interface.py does. A pointer and behind it NAME_length or NAME_count is a run; NAME[LENGTH] is a run of
+that length. Any other pointer leads to one record, as an answer's does. Everything else is a number.
 
 usage: tests/cross/calls.py OUT"""
 import hashlib

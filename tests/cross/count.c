@@ -1,5 +1,6 @@
-/* Counts the instructions of calls on a bare Cortex-M4 under qemu with -icount shift=6: an instruction takes 64 ns of the board's time there, and a
- * tick of SysTick 40 ns. Prints what each takes; memcpy, memmove and memset are counted in. An echo request is answered by oatcastle_rot_read. Assumes the startup code, the linker script and memory.c of examples/firmware, and a processor clock of 25 MHz. */
+/* Counts the instructions of calls on a bare Cortex-M4 under qemu with -icount shift=6. An instruction takes 64 ns of the board's time
+ * there, and a tick of SysTick 40 ns. Prints what each takes; memcpy, memmove and memset are counted in. An echo request is answered by
+ * oatcastle_rot_read. Assumes the startup code, the linker script and memory.c of examples/firmware, and a processor clock of 25 MHz. */
 #include "oatcastle_parts.h"
 #include "semihosting.h"
 

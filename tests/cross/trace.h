@@ -5,8 +5,8 @@
  *           number returned u32 and, for each run that the function may write, its changes
  *   changes how many u32; of each its offset u32, its length u32 and the bytes
  *
- * A slot stands for all runs lent under one parameter's name. A run's changes are against what its slot held at the end of the last call that was lent it,
- * and behind the call against what it held before; a slot is all zeros at first. */
+ * A slot stands for all runs lent under one parameter's name. A run's changes are against what its slot held at the end of the last call
+ * that was lent it. Behind the call they are against what it held before. A slot is all zeros at first. */
 #ifndef TRACE_H
 #define TRACE_H
 

@@ -1,6 +1,6 @@
-// Defines two supervisors that differ only in key 6's setting: the same calls on both, but for sets of key 6 with values of their own (apart.rs), and the
-// comparison of all that they answer, write and leave. Assumes that no call brings either edition to its end; with a fault of the model in an answer, what
-// the model says of each stands for what the library does.
+// Defines two supervisors that differ only in key 6's setting. Both get the same calls, but for sets of key 6 with values of their own
+// (apart.rs). All that they answer, write and leave is compared. Assumes that no call brings either edition to its end. With a fault of the
+// model in an answer, what the model says of each stands for what the library does.
 
 use crate::apart;
 use crate::calls::{answered, pattern, same, Call, Lent};

@@ -1,5 +1,6 @@
-// The driver of a snippet's `ask` and `hear`: for each line of standard input a fresh end asks, is interrupted where the line's first word says so, and hears the
-// line's other words, pieces in hex. Prints what was handed out and all that went to the wire. Assumes that it stands behind the snippet in one file.
+// The driver of a snippet's `ask` and `hear`: for each line of standard input a fresh end asks. It is interrupted where the line's first
+// word says so, and hears the line's other words, pieces in hex. Prints what was handed out and all that went to the wire. Assumes that it
+// stands behind the snippet in one file.
 
 fn line(words: &str) -> Result<String, Refusal> {
     let mut storage = oatcastle::requester::RequesterStorage::new();

@@ -1,4 +1,5 @@
-//! Defines safe types over the library's C functions: the supervisor, the main processor's end and a line reader work in storage that is lent to them, and no call can lend less.
+//! Defines safe types over the library's C functions. The supervisor, the main processor's end and a line reader work in storage that is
+//! lent to them, and no call can lend less.
 //! Assumes the static library is linked and its functions do what `docs/PROMISES.md` says; nothing of the standard library is used.
 //!
 //! The supervisor in a `static`, and the status request that document 01 calls L12:
@@ -15,10 +16,10 @@
 //! assert_eq!(supervisor.take(&mut room).len(), 37);
 //! ```
 //!
-//! A call that no refusal of its promise can meet here returns its answer and no `Result`. Refusal 12 is ruled out for every call of a started
-//! supervisor by the theorem `no-12` of `crates/supervisor_claims`, for the main processor's end by that of `crates/requester_claims`, and for a line reader
-//! by `stays-valid` of `crates/line_claims`: each starts in parts of the published lengths, and nothing else writes them while it lives. Were a number to come
-//! that a promise rules out, as from a library of another version, the call panics.
+//! A call that no refusal of its promise can meet here returns its answer and no `Result`. Refusal 12 cannot come: each starts in parts of
+//! the published lengths, and nothing else writes them while it lives. For a started supervisor that is the theorem `no-12` of
+//! `crates/supervisor_claims`, for the main processor's end that of `crates/requester_claims`. For a line reader it is `stays-valid` of
+//! `crates/line_claims`. Were a number to come that a promise rules out, as from a library of another version, the call panics.
 #![no_std]
 #![deny(unsafe_op_in_unsafe_fn, missing_docs, missing_debug_implementations)]
 #![warn(

@@ -1,4 +1,4 @@
-/* The main processor's end on a serial port or pty: sets and looks keys up as lines of standard
+/* The main processor's end on a serial port or pty. Sets and looks keys up as lines of standard
  * input ask, and prints a line for each and for each alert. Assumes device.c.
  * usage: main_end WIRE LINE      input: `set KEY HEX` or `get KEY`
  * output: `stored KEY`, `value KEY HEX`, `refused KEY RESULT`, `alert ACTION TEXT` */

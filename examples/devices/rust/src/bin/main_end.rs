@@ -1,5 +1,5 @@
-// Defines the main processor's end on a serial port or pty: it sets and looks keys up as lines of standard input ask, and prints a line
-// for each and for each alert. Assumes device.rs.
+// Defines the main processor's end on a serial port or pty. It sets and looks keys up as lines of standard input ask, and prints a line for
+// each and for each alert. Assumes device.rs.
 // usage: main_end WIRE LINE      input: `set KEY HEX` or `get KEY`
 // output: `stored KEY`, `value KEY HEX`, `refused KEY RESULT`, `alert ACTION TEXT`
 
