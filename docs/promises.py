@@ -4,8 +4,10 @@ tests/mutants/*/*.edit. A first line is `# call: wrong answer`, or `# call, call
 Assumes the form of that document: `## `CRATE`` begins a crate, and a heading ### that begins with a code span the calls that it names. Their wrong answers
 are the list behind the line "Wrong answers tried:" at the section's end.
 
-usage: docs/promises.py check    whether the document has these lists, each edit a call, and each public function a section
-       docs/promises.py write    puts the lists there"""
+usage: docs/promises.py check      whether the document has these lists, each edit a call, and each public function a section
+       docs/promises.py write      puts the lists there
+       docs/promises.py planted    plants a fault of each kind, in memory alone, which must be seen"""
+import functools
 import re
 import sys
 import textwrap
@@ -51,9 +53,8 @@ def without_list(lines):
     return cut
 
 
-def made(text):
-    """The document with its lists, the edits that have no call there, and the calls that have a section: crate and path."""
-    wanted = list(edits())
+def made(text, wanted):
+    """The document with the lists of these edits, the edits that have no call there, and the calls that have a section: crate and path."""
     pieces, named, placed = [], set(), set()
     for crate, calls, lines in sections(text):
         names = {call.split('::')[-1] for call in calls if (crate, call.split('::')[-1]) not in placed}
@@ -66,27 +67,54 @@ def made(text):
     return '\n\n'.join(piece for piece in pieces if piece) + '\n', homeless, named
 
 
+@functools.cache
+def public_functions():
+    return [path for path, _ in reading.promises(sources.Sources())]
+
+
 def without_section(named):
     """The public functions that the document has no section of."""
-    for path, _ in reading.promises(sources.Sources()):
+    for path in public_functions():
         crate, _, rest = path.partition('::')
         if (crate, rest) not in named and (crate, rest.split('::')[-1]) not in named:
             yield path
 
 
+def faults(text, wanted):
+    """What is wrong with the document's text, for these edits."""
+    right, homeless, named = made(text, wanted)
+    yield from (f'promises: no call of docs/PROMISES.md is tried by {edit}' for edit in homeless)
+    yield from (f'promises: docs/PROMISES.md has no section of {path}' for path in without_section(named))
+    if text != right:
+        yield 'promises: docs/PROMISES.md has not the wrong answers that docs/promises.py write puts there'
+
+
+def planted(text, wanted):
+    """Each fault is seen, and there is none before."""
+    line = next(line for _, _, line in wanted if line in text.split('\n'))
+    plants = {
+        'an edit that the document lacks': (text.replace(f'{line}\n', '', 1), wanted),
+        'an edit of another wording': (text, [(crate, calls, other.replace(line, f'{line} too')) for crate, calls, other in wanted]),
+        'an edit of a call without a section': (text, [*wanted, ('line', ['no_such_call'], '- mutant `none`: nothing')]),
+        'a public function without a section': (text.replace('### `outbox::take(', '### `outbox::taken(', 1), wanted),
+    }
+    missed = [what for what, given in plants.items() if not list(faults(*given))] + list(faults(text, wanted))
+    print('\n'.join([f'promises: not seen: {what}' for what in missed] + [f'promises: {len(plants) - len(missed)} of {len(plants)} planted faults seen']))
+    return 1 if missed else 0
+
+
 def main():
-    if sys.argv[1:] not in (['check'], ['write']):
+    if sys.argv[1:] not in (['check'], ['write'], ['planted']):
         sys.exit(__doc__)
-    text = PATH.read_text()
-    wanted, homeless, named = made(text)
+    text, wanted = PATH.read_text(), list(edits())
+    if sys.argv[1] == 'planted':
+        sys.exit(planted(text, wanted))
     if sys.argv[1] == 'write':
-        PATH.write_text(wanted)
-        text = wanted
-    bare = list(without_section(named))
-    wrong = [f'promises: no call of docs/PROMISES.md is tried by {edit}' for edit in homeless] + [f'promises: docs/PROMISES.md has no section of {path}' for path in bare]
-    wrong += [] if text == wanted else ['promises: docs/PROMISES.md has not the wrong answers that docs/promises.py write puts there']
-    print('\n'.join(wrong + [f'promises: {len(list(edits()))} edits under {len(named)} calls, {len(wrong)} faults']))
-    sys.exit(1 if wrong else 0)
+        text = made(text, wanted)[0]
+        PATH.write_text(text)
+    wrong = list(faults(text, wanted))
+    print('\n'.join(wrong + [f'promises: {len(wanted)} edits under {len(made(text, wanted)[2])} calls, {len(wrong)} faults']))
+    sys.exit(1 if wrong or not wanted else 0)
 
 
 if __name__ == '__main__':
