@@ -1,0 +1,2 @@
+// No code: the meaning of a tap on the wire.
+// Assumes nothing.
