@@ -253,8 +253,7 @@ has 60. "Behind it": what the calls before left is not painted over.
 
 
 FIGURES = '''
-Figures that we look for at -O2. Some 3,000 instructions of a status request are of the line layer (docs/CHANGES.md, "Cheaper tests for
-12").
+Figures that we look for at -O2.
 
 '''
 

@@ -1,14 +1,14 @@
 -- Bytes that are all alike: found in a list, and put into one.
 -- Assumes nothing.
-use Prim.Native.Nat.{ℕ, _+_, _≤_, _<_}
-use mathlib.Core.Path.{_≡_, sym}
+use Prim.Native.Nat.{ℕ, zero, suc, _+_, _≤_, _<_}
+use mathlib.Core.Path.{_≡_, sym, _∙_}
 use mathlib.Core.Bool.{true, false}
 use mathlib.Core.List.{List, [], _∷_, _++_}
 use native.Mathlib.Omega.{arith}
 use lib.ListN.{length, take, drop, getD, set, replicate, length-replicate, replicate-append-replicate, take-append-drop}
 use lib.Seq.{take-take, drop-drop}
 use Rattle.octets.specs.Bytes.{run, overlay}
-use Rattle.octets.proofs.Overlay.{run-take, run-more, overlay-more}
+use Rattle.octets.proofs.Overlay.{run-take, run-more, overlay-none, overlay-more}
 
 -- a test that fails
 pub failed : {A : Type 0} → false ≡ true → A
@@ -27,6 +27,11 @@ pub put-alike : (b at k : ℕ) (s : List ℕ) → at + k < length s
 put-alike b at k s h =
     let n = length-replicate k b in
     rw alike-more (rw n at (overlay-more at b (replicate k b) s (omega arith)))
+
+-- no byte is put
+pub put-no-byte : (b at j : ℕ) (s t : List ℕ) → j ≤ 0 → t ≡ overlay at (replicate j b) s → t ≡ s
+put-no-byte b at zero s t h e = e ∙ overlay-none at s
+put-no-byte b at (suc j) s t h e = absurd (omega arith)
 
 -- a run of the first n bytes
 pub run-within : (j k n : ℕ) (s : List ℕ) → j + k ≤ n → run j k (take n s) ≡ run j k s

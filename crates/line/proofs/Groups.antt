@@ -8,9 +8,8 @@ use native.Mathlib.Numerals.{add-one}
 use native.Mathlib.Omega.{arith}
 use lib.ListN.{length, take, drop, set, replicate, length-set, length-append, length-drop, length-replicate}
 use lib.Seq.{drop-drop, take-take, take-add, take-at, drop-at, take-length, length-take-le, append-snoc}
-use Rattle.octets.specs.Bytes.{run, overlay, copied}
-use Rattle.octets.proofs.Overlay.{run-take, length-run, length-overlay, overlay-more, overlay-next, overlay-none, copied-fits}
-use Rattle.octets.proofs.Overlay.{length-copied}
+use Rattle.octets.specs.Bytes.{run, overlay}
+use Rattle.octets.proofs.Overlay.{run-take, length-run, length-overlay, overlay-more, overlay-next, overlay-none, overlay-one, overlay-swap}
 use Rattle.line.specs.Runs.{nonzero}
 use Rattle.line.specs.Cobs.{groups, unlessEnd, cobs}
 use Rattle.line.proofs.Runs.{nonzero-most, nonzero-take}
@@ -109,16 +108,25 @@ module _ (l xs ys : List ℕ) (o m : ℕ) (e : drop o l ≡ xs ++ ys) (h : lengt
   split-drop : drop (o + m) l ≡ ys
   split-drop = rw (← drop-drop m o l, e, drop-at xs ys m h)
 
+-- a byte put ahead of a run
+set-ahead : (at v : ℕ) (xs t : List ℕ) → at + 1 + length xs ≤ length t
+    → set (overlay (at + 1) xs t) at v ≡ overlay (at + 1) xs (set t at v)
+set-ahead at v xs t h =
+    let n = length-overlay (at + 1) xs t h in
+    overlay-one at v (overlay (at + 1) xs t) (omega arith) ∙ overlay-swap at (at + 1) (v ∷ []) xs t (omega arith) (omega arith)
+    ∙ ap (overlay (at + 1) xs) (sym (overlay-one at v t (omega arith)))
+
 -- a byte and a run behind bytes that are put
 put-group : (d out s : List ℕ) (i k v : ℕ) → i + k ≤ length s → length d + (k + 1) ≤ length out
-    → copied s i k (set (overlay 0 d out) (length d) v) (length d + 1) ≡ overlay 0 (d ++ (v ∷ run i k s)) out
+    → set (overlay (length d + 1) (run i k s) (overlay 0 d out)) (length d) v ≡ overlay 0 (d ++ (v ∷ run i k s)) out
 put-group d out s i k v h l =
     let c = d ++ (v ∷ []) in
     let m : length c ≡ length d + 1 = rw length-append in
     let p = rw zero-add at (overlay-more 0 v d out (omega arith)) in
-    let q = length-overlay 0 c out (omega arith) in
+    let q = length-overlay 0 d out (omega arith) in
+    let r = length-run i k s h in
     let g = rw (zero-add, m, append-snoc) at (overlay-next 0 c (run i k s) out (omega arith)) in
-    rw p (copied-fits s i k (overlay 0 c out) (length d + 1) h (omega arith) ∙ g)
+    set-ahead (length d) v (run i k s) (overlay 0 d out) (omega arith) ∙ rw p g
 
 -- from what the code's calls ensure
 pub next-group : (s : List ℕ) (n i o k most : ℕ) → n ≤ length s → i ≤ n → Met s n i o
@@ -163,16 +171,42 @@ module _ {s : List ℕ} {n i o k : ℕ} (t : NextGroup s n i o k) where
       t .left ∙ after-full 253 (drop i (take n s)) (omega arith) (omega arith) ∙ rw (drop-drop, e)
 
   -- the group is put behind those that are made
-  pub next-group-put : {out₀ out : List ℕ} → length (cobs (take n s)) ≤ length out₀ → Put (cobs (take n s)) o out₀ out
-      → Put (cobs (take n s)) (o + (k + 1)) out₀ (copied s i k (set out o (k + 1)) (o + 1))
-  next-group-put {out₀} {out} h p =
+  group-put : {out₀ out : List ℕ} → length (cobs (take n s)) ≤ length out₀ → Put (cobs (take n s)) o out₀ out
+      → Put (cobs (take n s)) (o + (k + 1)) out₀ (set (overlay (o + 1) (run i k s) out) o (k + 1))
+  group-put {out₀} {out} h p =
       let r = t .room in
+      let q = p .size in
+      let m = length-run i k s (omega (arith, t)) in
       let l : length (take o (cobs (take n s))) ≡ o = length-take-le o (cobs (take n s)) (omega arith) in
       record {
-        size = simp (length-copied, length-set) (p .size);
+        size = simp length-set (length-overlay (o + 1) (run i k s) out (omega arith) ∙ q);
         bytes =
             rw (p .bytes, t .taken) (rw l at (put-group (take o (cobs (take n s))) out₀ s i k (k + 1) (omega (arith, t)) (omega arith)));
       }
+
+  -- from what the code's calls ensure
+  pub next-group-put : {out₀ out u v : List ℕ} → length (cobs (take n s)) ≤ length out₀ → Put (cobs (take n s)) o out₀ out
+      → u ≡ out → v ≡ overlay (o + 1) (run i k s) u → Put (cobs (take n s)) (o + (k + 1)) out₀ (set v o (k + 1))
+  next-group-put h p e f = rw (f, e) (group-put h p)
+
+-- ---- a form has at least a byte more than its message
+
+groups-longer : (r : ℕ) (ys : List ℕ) → length ys ≤ length (groups r ys .after)
+unfolding groups
+groups-longer r [] = omega arith
+groups-longer r (zero ∷ ys) = omega (arith, groups-longer 253 ys)
+groups-longer zero (suc b ∷ []) = omega arith
+groups-longer zero (suc b ∷ y ∷ ys) = omega (arith, groups-longer 253 (y ∷ ys))
+groups-longer (suc r) (suc b ∷ ys) = omega (arith, groups-longer r ys)
+
+cobs-longer : (ys : List ℕ) → length ys < length (cobs ys)
+unfolding cobs
+cobs-longer ys = omega (arith, groups-longer 253 ys)
+
+-- there is room for the bytes that are left, and for one more
+pub room-left : (s : List ℕ) (n i o : ℕ) → n ≤ length s → Met s n i o → o + (n - i) < length (cobs (take n s))
+room-left s n i o h met =
+    omega (arith, ap length met, length-drop o (cobs (take n s)), length-left s n i h, cobs-longer (drop i (take n s)))
 
 -- ---- zeros where a group begins: each is a group of no bytes
 
@@ -188,14 +222,14 @@ pub record Zeros (s : List ℕ) (n i o j : ℕ) : Type 0 where
   pub taken : take (o + j) (cobs (take n s)) ≡ take o (cobs (take n s)) ++ replicate j 1
   pub met : Met s n (i + j) (o + j)
 
-pub zeros-next : (s : List ℕ) (n i o j : ℕ) → 0 < j → i + j ≤ n → run i j s ≡ replicate j 0 → Met s n i o → Zeros s n i o j
-zeros-next s n i o j p h e met =
+pub zeros-next : (s : List ℕ) (n i o j : ℕ) → i + j ≤ n → run i j s ≡ replicate j 0 → Met s n i o → Zeros s n i o j
+zeros-next s n i o j h e met =
     let rest = drop (i + j) (take n s) in
     let f : drop o (cobs (take n s)) ≡ replicate j 1 ++ cobs rest = met ∙ rw (alike-next s n i j 0 h e) (cobs-zeros j rest) in
     let l = length-replicate {A = ℕ} j 1 in
     record {
       inside = h;
-      room = omega (arith, ap length f, length-drop o (cobs (take n s)), length-append (replicate j 1) (cobs rest));
+      room = omega (arith, ap length f, length-drop o (cobs (take n s)), length-append (replicate j 1) (cobs rest), cobs-longer rest);
       taken = split-take (cobs (take n s)) (replicate j 1) _ o j f l;
       met = split-drop (cobs (take n s)) (replicate j 1) _ o j f l;
     }

@@ -9,9 +9,8 @@ use native.Mathlib.Omega.{arith}
 use lib.Dec.{leb, ltb}
 use lib.ListN.{length, take, drop, getD, set, replicate, length-append, length-replicate}
 use lib.Seq.{slice, length-slice, drop-drop}
-use Rattle.octets.specs.Bytes.{run, overlay, movedDown}
-use Rattle.octets.proofs.Overlay.{length-run, length-overlay, overlay-none, overlay-after, overlay-next, overlay-more, overlay-getD-after}
-use Rattle.octets.proofs.Overlay.{movedDown-fits}
+use Rattle.octets.specs.Bytes.{run, overlay}
+use Rattle.octets.proofs.Overlay.{length-run, overlay-none, overlay-after, overlay-next, overlay-more, overlay-getD-after}
 use Rattle.line.specs.Cobs.{impliedZero}
 use Rattle.line.specs.Decoding.{one-if, plainGroup, plain}
 use Rattle.line.proofs.Alike.{run-within, alike-next}
@@ -40,21 +39,23 @@ zero-put : (z : Bool) (d s : List ℕ) → length d < length s
 zero-put true d s h = rw zero-add at (overlay-more 0 0 d s (omega arith))
 zero-put false d s h = rw append-nil
 
+-- k bytes moved from one offset to another
+abbrev moved : List ℕ → ℕ → ℕ → ℕ → List ℕ
+moved s from to k = overlay to (run from k s) s
+
 -- a run, moved down behind the bytes decoded
 run-moved : (d s : List ℕ) (from k : ℕ) → length d ≤ from → from + k ≤ length s
-    → movedDown (overlay 0 d s) from (length d) k ≡ overlay 0 (d ++ run from k s) s
+    → moved (overlay 0 d s) from (length d) k ≡ overlay 0 (d ++ run from k s) s
 run-moved d s from k h l =
-    let e = length-overlay 0 d s (omega arith) in
     let n = overlay-next 0 d (run from k s) s (omega arith) in
-    movedDown-fits (overlay 0 d s) from (length d) k h (omega arith)
-    ∙ rw (overlay-after 0 from k d s (omega arith) (omega arith)) (rw zero-add at n)
+    rw (overlay-after 0 from k d s (omega arith) (omega arith)) (rw zero-add at n)
 
 length-held : (d : List ℕ) (z : Bool) → length (d ++ impliedZero z) ≡ length d + one-if z
 length-held d z = simp (length-append, length-zeros)
 
 -- one group, put after the bytes decoded
 group-put : (z : Bool) (d s : List ℕ) (from k : ℕ) → length d + one-if z ≤ from → length d < length s → from + k ≤ length s
-    → movedDown (cond z (set (overlay 0 d s) (length d) 0) (overlay 0 d s)) from (length d + one-if z) k
+    → moved (cond z (set (overlay 0 d s) (length d) 0) (overlay 0 d s)) from (length d + one-if z) k
     ≡ overlay 0 ((d ++ impliedZero z) ++ run from k s) s
 group-put z d s from k h l f =
     let e = length-held d z in
@@ -90,7 +91,7 @@ middle-end s n t z o i m h l =
 -- one group, whose code byte is c
 pub middle-next : (s : List ℕ) (n : ℕ) (t : List ℕ) (z : Bool) (o i c k : ℕ) → Middle s n t z o i → i < n → n ≤ length s
     → c ≡ getD t i 0 → k ≡ min (c - 1) (n - (i + 1))
-    → Middle s n (movedDown (cond z (set t o 0) t) (i + 1) (o + one-if z) k) (leb c 254) (o + one-if z + k) (i + 1 + k)
+    → Middle s n (moved (cond z (set t o 0) t) (i + 1) (o + one-if z) k) (leb c 254) (o + one-if z + k) (i + 1 + k)
 middle-next s n t z o i c k m h l e f =
     let d = m .decoded in
     let p : getD t i 0 ≡ getD s i 0 = rw (m .stands) (overlay-getD-after 0 i 0 d s (omega arith) (omega arith)) in

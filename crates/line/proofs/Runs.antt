@@ -8,7 +8,7 @@ use native.Mathlib.Nat.{add-zero, zero-add, suc-add, sub-zero}
 use native.Mathlib.Numerals.{add-one, unary-clauses}
 use native.Mathlib.Omega.{arith}
 use lib.ListN.{length, take, drop, getD, length-drop}
-use lib.Seq.{drop-cons, drop-drop, take-length}
+use lib.Seq.{drop-cons, drop-drop}
 use Rattle.octets.specs.Bytes.{Each}
 use Rattle.line.specs.Runs.{nonzero, runLength}
 
@@ -120,10 +120,16 @@ reached-block most k j xs h l =
     let e : j + (most - (k + j)) ≡ most - k = omega arith in
     omega (arith, rw (e, drop-drop) at (nonzero-add j (most - (k + j)) (drop k xs) l))
 
--- a run goes no further than there are bytes
-pub nonzero-within : (most : ℕ) (xs : List ℕ) → nonzero most xs ≡ nonzero (min most (length xs)) xs
-nonzero-within most xs = rw (← nonzero-take most (length xs) xs, take-length xs)
+-- a run that is shorter than it may be goes no further
+nonzero-still : (j most : ℕ) (xs : List ℕ) → j ≤ most → length (nonzero j xs) < j → nonzero most xs ≡ nonzero j xs
+unfolding nonzero
+nonzero-still zero most xs h l = absurd (omega arith)
+nonzero-still (suc j) zero xs h l = absurd (omega arith)
+nonzero-still (suc j) (suc most) [] h l = refl
+nonzero-still (suc j) (suc most) (zero ∷ xs) h l = refl
+nonzero-still (suc j) (suc most) (suc b ∷ xs) h l = ap (λ (l : List ℕ). suc b ∷ l) (nonzero-still j most xs (omega arith) (omega arith))
 
--- no byte is passed
-pub reached-start : (most end : ℕ) (xs : List ℕ) → end ≡ min most (length xs) → length (nonzero most xs) ≡ runLength end 0 xs
-reached-start most end xs e = rw (nonzero-within most xs, ← e) (reached-none end xs)
+-- the run ends within the next j bytes
+pub reached-stop : (most k j : ℕ) (xs : List ℕ) → k + j ≤ most → length (nonzero j (drop k xs)) < j
+    → runLength most k xs ≡ k + length (nonzero j (drop k xs))
+reached-stop most k j xs h l = rw (nonzero-still j (most - k) (drop k xs) (omega arith) l)

@@ -12,6 +12,6 @@ pub(crate) const LONGEST_MESSAGE: usize = 4123;
 
 pub const LONGEST_DATA: usize = LONGEST_MESSAGE - SHORTEST_MESSAGE;
 
-pub(crate) const LONGEST_GROUP: usize = 254;
+pub(crate) const LONGEST_GROUP: u32 = 254;
 
-pub const LONGEST_FORM: usize = LONGEST_MESSAGE + 1 + LONGEST_MESSAGE / LONGEST_GROUP;
+pub const LONGEST_FORM: usize = LONGEST_MESSAGE + 1 + LONGEST_MESSAGE / LONGEST_GROUP as usize;

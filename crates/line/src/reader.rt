@@ -33,6 +33,9 @@ const OVERLONG: usize = limits::LONGEST_FORM + 1;
 // The longest piece that `collect` takes byte by byte.
 const SHORT_PIECE: usize = 64;
 
+// The longest part of a piece that is searched at once.
+const PART: usize = 65536;
+
 const DATA_OFFSET: usize = FRAME_OFFSET + limits::HEADER_LENGTH;
 
 // A message that was handed out; its data lie in the state.
@@ -108,7 +111,7 @@ pub fn read(state: &mut [u8], piece: &[u8]) -> Reading
             answer: Answer::Refused,
         };
     }
-    let n = nonzero_run(&piece[0..], 0, piece.len());
+    let n = ahead(piece);
     append(state, piece, n);
     if n == piece.len() {
         return Reading {
@@ -136,7 +139,7 @@ pub fn collect(state: &mut [u8], piece: &[u8]) -> Collected
             return Collected::Bytes(append_short(state, piece, have));
         }
     }
-    let n = nonzero_run(&piece[0..], 0, piece.len());
+    let n = ahead(piece);
     let reading = read(state, &piece[..n]);
     Collected::Bytes(reading.used)
 }
@@ -206,6 +209,22 @@ pub fn is_valid(state: &[u8]) -> bool
     get_count(state) <= OVERLONG
 }
 
+// How many bytes of a piece stand ahead of its first 00. A piece of any length is searched part by part, since a search counts in 32 bits.
+fn ahead(piece: &[u8]) -> usize
+    ensures { λ r. ⌜ r ≡ length (nonzero (length (now (piece .entry))) (now (piece .entry))) ⌝ }
+{
+    let mut at = 0;
+    while at < piece.len() {
+        let n = octets::min(PART, piece.len() - at) as u32;
+        let k = nonzero_run(&piece[at..], 0, n);
+        at += k as usize;
+        if k < n {
+            return at;
+        }
+    }
+    at
+}
+
 // The first n bytes of a piece, none of them zero, as far as they fit.
 fn append(state: &mut [u8], piece: &[u8], n: usize)
     requires { ⌜ reader-length ≤ length (now state) ⌝ }
@@ -239,7 +258,13 @@ fn append_short(state: &mut [u8], piece: &[u8], have: usize) -> usize
     ensures { λ r. ⌜ (r ≡ length (nonzero (length (now (piece .entry))) (now (piece .entry))))
         × (now (state .exit) ≡ pushedAll (now (state .entry)) (take r (now (piece .entry)))) ⌝ }
 {
-    let taken = copy_run(piece, state, FRAME_OFFSET + have);
+    let taken = copy_run(
+        piece,
+        0,
+        piece.len() as u32,
+        state,
+        (FRAME_OFFSET + have) as u32,
+    ) as usize;
     if taken == 0 {
         return 0;
     }
@@ -261,11 +286,11 @@ fn finish_frame(state: &mut [u8]) -> Answer
     if limits::LONGEST_FORM < n {
         return Answer::BadForm;
     }
-    finish_form(state, n)
+    finish_form(state, n as u32)
 }
 
 // The length that the frame's n bytes decode to, unless they are no COBS form.
-fn frame_length(state: &[u8], n: usize) -> Measured
+fn frame_length(state: &[u8], n: u32) -> Measured
     requires { ⌜ frame-offset + n ≤ length (now state) ⌝ }
     ensures { λ r. ⌜ r ≡ measured (uncobs (run frame-offset n (now (state .entry)))) ⌝ }
 {
@@ -273,7 +298,7 @@ fn frame_length(state: &[u8], n: usize) -> Measured
 }
 
 // The frame's n bytes decoded in their place.
-fn decode_frame(state: &mut [u8], n: usize)
+fn decode_frame(state: &mut [u8], n: u32)
     requires { ⌜ frame-offset + n ≤ length (now state) ⌝ }
     ensures { λ _. ⌜ now (state .exit) ≡ overlay frame-offset (plain (run frame-offset n (now (state .entry)))) (now (state .entry)) ⌝ }
 {
@@ -281,7 +306,7 @@ fn decode_frame(state: &mut [u8], n: usize)
 }
 
 // A frame of n bytes.
-fn finish_form(state: &mut [u8], n: usize) -> Answer
+fn finish_form(state: &mut [u8], n: u32) -> Answer
     requires { ⌜ reader-length ≤ length (now state) ⌝ }
     requires { ⌜ n ≤ longest-form ⌝ }
     ensures { λ r. ⌜ frameOutcome (readReport r) (now (state .exit))

@@ -106,7 +106,7 @@ fn send(m: &[u8], n: usize, out: &mut [u8]) -> Written
     if !has_room(m, n, out.len()) {
         return Written::NoRoom;
     }
-    let k = cobs::encode(m, n, out);
+    let k = cobs::encode(m, n as u32, out) as usize;
     out[k] = 0;
     Written::Done(k + 1)
 }
@@ -120,5 +120,5 @@ fn has_room(m: &[u8], n: usize, room: usize) -> bool
     if limits::LONGEST_FORM < room {
         return true;
     }
-    cobs::form_length(m, n) < room
+    (cobs::form_length(m, n as u32) as usize) < room
 }

@@ -7,7 +7,7 @@ use mathlib.Core.Option.{Option, none, some}
 use Prim.Native.Nat.{ℕ, zero, suc, _+_, _-_, _^_, _≤_, _<_, zero-le}
 use native.Mathlib.Omega.{arith}
 use lib.Dec.{eqb}
-use lib.ListN.{length, take, drop, length-drop, drop-of-length-le}
+use lib.ListN.{length, take, drop, getD, length-drop, drop-of-length-le}
 use lib.Seq.{take-all, drop-drop}
 use borrow.Author.Tests.{ne-eqb, eqb-true, le-leb, lt-leb}
 use Rattle.octets.specs.Bytes.{bytes, numberAt}
@@ -15,6 +15,8 @@ use Rattle.octets.proofs.Numbers.{length-bytes}
 use Rattle.line.specs.Limits.{longest-data}
 use Rattle.line.specs.Numbers.{first-version, second-version}
 use Rattle.line.specs.Reader as LineReader
+use Rattle.line.specs.declared.reader.Collected.{Collected}
+use Rattle.line.specs.declared.reader.Collected.the-variants as collected
 use Rattle.line.proofs.Received.{read-stays}
 use Rattle.supervisor.specs.Valid.{validFactory}
 use Rattle.supervisor.specs.Calls.{Parts, parts}
@@ -300,6 +302,26 @@ pub over : {image piece : List ℕ} {p₀ p : Parts} {at : ℕ} → Held image p
     → Receive.receiveOutcome received.Done p ≡ Receive.receivePromise image p₀ piece
 unfolding Receive.receiveReport Receive.feedBytes
 over {piece = piece} h l = rw (h .same, drop-of-length-le piece l)
+
+-- a single byte that ends no frame
+kept-state : (c : Collected) (s : List ℕ) → LineReader.collectOutcome c s .state ≡ s
+unfolding LineReader.collectOutcome
+kept-state collected.Refused s = refl
+kept-state (collected.Bytes n) s = refl
+
+pub kept : (image piece : List ℕ) (p : Parts) (c : Collected) (reader : List ℕ) → Receive.validParts p ≡ true
+    → length piece ≡ 1 → 0 < getD piece 0 0 → LineReader.collectOutcome c reader ≡ LineReader.collectPromise (p .reader) piece
+    → Receive.receiveOutcome received.Done (Receive.partsWith p reader (Receive.innerOf p)) ≡ Receive.receivePromise image p piece
+unfolding Receive.receivePromise Receive.receiveReport Receive.feedBytes Receive.feedByte LineReader.collectPromise LineReader.aheadOf00
+    LineReader.readPiece LineReader.oneByteLater
+kept image [] p c reader v l b e = absurd (omega arith)
+kept image (zero ∷ bs) p c reader v l b e = absurd (omega arith)
+kept image (suc b ∷ x ∷ bs) p c reader v l h e = absurd (omega arith)
+kept image (suc b ∷ []) p c reader v l h e =
+    let n = ne-eqb (suc b) 0 (λ f. omega arith) in
+    let q = accepted (p .reader) (suc b ∷ []) (parts-valid p v .reader) in
+    let s = rw (n, q, kept-state c reader) at (ap (λ (o : LineReader.ReadOutcome). o .state) e) in
+    rw (v, n, s, read-next (p .reader) b [])
 
 -- an iteration at an offset of the piece
 module _ {image piece : List ℕ} {p₀ p : Parts} {at : ℕ} {o : Receive.StepOutcome} (h : Held image piece p₀ p at) (l : at < length piece)

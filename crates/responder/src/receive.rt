@@ -11,8 +11,8 @@ use supervisor::number::RequestNumber;
 use supervisor::valid;
 ghost use mathlib.Core.Path.{_≡_};
 ghost use mathlib.Core.Bool.{true};
-ghost use Prim.Native.Nat.{_≤_};
-ghost use lib.ListN.{length};
+ghost use Prim.Native.Nat.{_≤_, _<_};
+ghost use lib.ListN.{length, getD};
 ghost use Rattle.line.specs.Reader.{readReport};
 ghost use Rattle.supervisor.specs.Layout.{outbox-length};
 ghost use Rattle.supervisor.specs.Valid.{validFactory};
@@ -77,6 +77,10 @@ pub fn receive(
     if !are_valid(reader, outbox, &factory[0..], settings, registers) {
         return Received::Refused;
     }
+    if is_kept(piece) {
+        line::reader::collect(reader, piece);
+        return Received::Done;
+    }
     let mut at = 0;
     while at < piece.len() {
         let done = valid_step(
@@ -92,6 +96,16 @@ pub fn receive(
         at += used;
     }
     Received::Done
+}
+
+// Whether a piece is a single byte that ends no frame: the line reader keeps it, and nothing else comes of it.
+fn is_kept(piece: &[u8]) -> bool
+    ensures { λ r. ⌜ (r ≡ true → (length (now (piece .entry)) ≡ 1) × (0 < getD (now (piece .entry)) 0 0)) ⌝ }
+{
+    if piece.len() != 1 {
+        return false;
+    }
+    piece[0] != 0
 }
 
 // Whether all parts pass the tests for 12.

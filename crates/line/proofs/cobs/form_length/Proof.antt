@@ -41,7 +41,7 @@ block : (c : tie.Then1 Inv-loop μ-loop)
     Zeros (now (a .s)) (a .n) (at-loop .loop .i) (at-loop .loop .o) 32
 block c =
     let found = c .before .alike .ensures (c .if1 .taken) in
-    zeros-next _ _ _ _ 32 (omega arith) (found .0) (found .1) (at-loop-from-then1 c .loop .inv .2)
+    zeros-next _ _ _ _ 32 (found .0) (found .1) (at-loop-from-then1 c .loop .inv .2)
 
 -- one zero
 one : (c : tie.Then2 Inv-loop μ-loop)
@@ -50,7 +50,7 @@ one : (c : tie.Then2 Inv-loop μ-loop)
     Zeros (now (a .s)) (a .n) (at-loop .loop .i) (at-loop .loop .o) 1
 one c =
     let found = c .before .alike2 .ensures (c .if2 .taken) in
-    zeros-next _ _ _ _ 1 (omega arith) (found .0) (found .1) (at-loop-from-then2 c .loop .inv .2)
+    zeros-next _ _ _ _ 1 (found .0) (found .1) (at-loop-from-then2 c .loop .inv .2)
 
 -- what an iteration's calls ensure of its group
 known : (c : tie.After-nonzero-run Inv-loop μ-loop)
@@ -59,7 +59,8 @@ known : (c : tie.After-nonzero-run Inv-loop μ-loop)
     NextGroup (now (a .s)) (a .n) (at-loop .loop .i) (at-loop .loop .o) (c .nonzero-run .result)
 known c =
     let l = at-loop-from-nonzero-run c .loop .inv in
-    next-group _ _ _ _ _ _ (start (at-loop-from-nonzero-run c) .pre .0) (l .0) (l .2) (c .before .min .ensures) (c .nonzero-run .ensures)
+    let within = start (at-loop-from-nonzero-run c) .pre .0 in
+    next-group _ _ _ _ _ _ within (l .0) (l .2) (c .before .smaller .ensures) (c .nonzero-run .ensures)
 
 pub form-length-spec : {M : Type 1} → statement M
 form-length-spec =

@@ -28,4 +28,5 @@ returns-3 c =
 pub last-one-after-full-spec : {M : Type 1} → statement M
 last-one-after-full-spec =
     tie.close
-    (tie.spec returns (λ c. search needs) (λ c. search needs) returns-2 (λ c. search needs) (λ c. search needs) returns-3)
+    (tie.spec
+    returns (λ c. search needs) (λ c. search needs) returns-2 (λ c. search needs) (λ c. search needs) (λ c. search needs) returns-3)

@@ -52,5 +52,6 @@ pub append-short-spec : {M : Type 1} → statement M
 append-short-spec =
     tie.close
     (tie.spec
-    (λ c. search needs) (λ c κs. search needs) (λ c. search needs) returns add-set-count set-count-requires (λ c. search needs)
+    (λ c. omega arith) (λ c. search needs) (λ c. omega arith) (λ c κs. ((omega arith, omega arith), (omega arith, omega arith)))
+    (λ c. omega (arith, most (c .before .before))) (λ c. search needs) returns add-set-count set-count-requires (λ c. search needs)
     returns-2)

@@ -6,12 +6,10 @@ use native.Mathlib.Omega.{arith}
 use borrow.Author.Needs.{needs}
 use borrow.Author.Tests.{not-true, not-false}
 use denote.Ref.{now}
-use lib.ListN.{length}
 use lib.Seq.{length-take-le}
 use Rattle.line.specs.Reader.{validReader, collectOutcome}
-use Rattle.line.proofs.Rest.{rest-mid}
 use Rattle.line.proofs.State.{valid-ready}
-use Rattle.line.proofs.Reading.{ahead, ahead-most, collecting-refused, collecting-kept, collecting-read}
+use Rattle.line.proofs.Reading.{ahead-most, collecting-refused, collecting-kept, collecting-read}
 use Rattle.line.proofs.reader.collect.Statement.{statement}
 use Rattle.line.proofs.reader.collect.Tie as tie
 
@@ -19,15 +17,11 @@ use Rattle.line.proofs.reader.collect.Tie as tie
 abbrev start : tie.Else1 → tie.Start
 start c = c .before .before .before .before .before
 
-abbrev else1 : tie.After-nonzero-run → tie.Else1
-else1 c = c .before .before .before .before .before
+abbrev else1 : tie.After-ahead → tie.Else1
+else1 c = c .before .before .before .before
 
 valid : (c : tie.Else1) → validReader (now (start c .args .state)) ≡ true
 valid c = sym (c .before .is-valid .ensures) ∙ not-false _ (c .if1 .left)
-
--- the search goes through the whole piece
-found : (c : tie.After-nonzero-run) → c .nonzero-run .result ≡ length (ahead (now (start (else1 c) .args .piece)))
-found c = cc (rest-mid (now (start (else1 c) .args .piece)) 0)
 
 returns : tie.Need-returns
 unfolding collectOutcome
@@ -50,19 +44,19 @@ slice-aggregate-read : tie.Need-slice-aggregate-read
 slice-aggregate-read c =
     let run = c .before .before in
     let piece = now (start (else1 run) .args .piece) in
-    sym (length-take-le (run .nonzero-run .result) piece (omega (arith, found run, ahead-most piece)))
+    sym (length-take-le (run .ahead .result) piece (omega (arith, run .ahead .ensures, ahead-most piece)))
 
 returns-3 : tie.Need-returns-3
 unfolding collectOutcome
 returns-3 c =
     let asked = c .before .before in
     let run = asked .before .before .before in
-    collecting-read _ _ (valid (else1 run)) (found run) (asked .read .ensures)
+    collecting-read _ _ (valid (else1 run)) (run .ahead .ensures) (asked .read .ensures)
 
 pub collect-spec : {M : Type 1} → statement M
 collect-spec =
     tie.close
     (tie.spec
     (λ c κs. search needs) (λ c. search needs) returns (λ c κs. search needs) (λ c. search needs) append-short-requires
-    (λ c. search needs) returns-2 (λ c. search needs) (λ c. search needs) (λ c. search needs) (λ c κs. search needs)
+    (λ c. search needs) returns-2 (λ c κs. search needs)
     slice-aggregate-read (λ c κs. search needs) (λ c. search needs) returns-3)

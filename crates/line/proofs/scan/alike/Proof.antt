@@ -49,5 +49,5 @@ alike-spec =
     tie.close
     (tie.spec
     Inv-loop μ-loop (λ c. search needs) (λ c. failed) (λ c. search needs) (λ c. failed) (λ c. search needs) (λ c. search needs)
-    (λ c. search needs) (λ c. failed) (λ c. (search needs, λ e. refl)) (λ c. search needs) (λ c. search needs) (λ c. search needs)
-    (λ c. search needs) loop-again returns-4)
+    (λ c. search needs) (λ c. search needs) (λ c. failed) (λ c. (search needs, λ e. refl)) (λ c. search needs) (λ c. search needs)
+    (λ c. search needs) (λ c. search needs) (λ c. search needs) loop-again returns-4)

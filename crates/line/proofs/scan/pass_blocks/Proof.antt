@@ -33,5 +33,5 @@ pub pass-blocks-spec : {M : Type 1} → statement M
 pass-blocks-spec =
     tie.close
     (tie.spec
-    Inv-loop μ-loop (λ c. (search needs, refl)) (λ c. search needs) (λ c. omega arith) (λ c κs. omega arith)
+    Inv-loop μ-loop (λ c. (search needs, refl)) (λ c. search needs) (λ c. omega arith) (λ c κs. (omega arith, omega arith))
     (λ c. at-loop (c .before) .loop .inv) (λ c. omega arith) (λ c. search needs) loop-again (λ c. c .before .loop .inv))

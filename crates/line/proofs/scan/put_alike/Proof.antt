@@ -35,4 +35,4 @@ put-alike-spec =
     tie.close
     (tie.spec
     Inv-loop μ-loop (λ c. (search needs, search needs, sym (overlay-none _ _))) (λ c. search needs) (λ c. search needs)
-    (λ c. search needs) (λ c. search needs) loop-again (λ c. search needs) returns)
+    (λ c. search needs) (λ c. search needs) (λ c. search needs) loop-again (λ c. search needs) returns)

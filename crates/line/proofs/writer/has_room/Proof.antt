@@ -18,4 +18,6 @@ returns c =
     sym (lt-ltb (length (cobs f)) (a .room) (omega (arith, overhead f, length-take (a .n) (now (a .m)))))
 
 pub has-room-spec : {M : Type 1} → statement M
-has-room-spec = tie.close (tie.spec returns (λ c κs. search needs) (λ c. rw (c .form-length .ensures)))
+has-room-spec =
+    tie.close
+    (tie.spec returns (λ c. search needs) (λ c κs. search needs) (λ c. search needs) (λ c. rw (c .form-length .ensures)))

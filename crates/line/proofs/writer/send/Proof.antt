@@ -34,7 +34,9 @@ send-spec =
     tie.close
     (tie.spec (λ c κs. search needs)
     (λ c. let a = start (c .before) .args in send-refused (cobs (take (a .n) (now (a .m)))) _ refl (short c))
+    (λ c. search needs)
     (λ c κs. let r = longEnough (c .before) in search needs)
+    (λ c. search needs)
     (λ c. omega (arith, longEnough (else1 c), at-encode c .encode .ensures .1))
     (λ c. omega (arith, longEnough (else1 c), at-encode c .encode .ensures .1))
     (λ c. search needs)

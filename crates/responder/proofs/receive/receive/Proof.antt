@@ -11,7 +11,7 @@ use Rattle.supervisor.specs.Calls.{parts}
 use Rattle.supervisor.proofs.Cases.{refused}
 use Rattle.supervisor.proofs.ValidLaws.{passed}
 use Rattle.responder.specs.Receive.{validParts, receiveReport, receivePromise}
-use Rattle.responder.proofs.StepLaws.{Held, begun, over, valid-step-used, went}
+use Rattle.responder.proofs.StepLaws.{Held, begun, over, kept, valid-step-used, went}
 use Rattle.responder.proofs.receive.receive.Statement.{statement}
 use Rattle.responder.proofs.receive.receive.Tie as tie
 
@@ -26,7 +26,7 @@ abbrev μ-loop : tie.MeasureT-loop
 abbrev in-loop-of : tie.After-valid-step Inv-loop μ-loop → tie.In-loop Inv-loop μ-loop
 in-loop-of c = c .before .before .before .before .before .before
 
-abbrev at-valid-step : tie.After-slice-known8 Inv-loop μ-loop → tie.After-valid-step Inv-loop μ-loop
+abbrev at-valid-step : tie.After-slice-known9 Inv-loop μ-loop → tie.After-valid-step Inv-loop μ-loop
 at-valid-step c = c .before .before .before .before .before .before .before .before
 
 abbrev start-of : tie.After-are-valid Inv-loop μ-loop → tie.Start Inv-loop μ-loop
@@ -43,8 +43,18 @@ returns : tie.Need-returns Inv-loop μ-loop
 unfolding receivePromise receiveReport
 returns c = rw (refused _ _ (tested (c .before)) (c .if1 .taken))
 
+-- a single byte that ends no frame
+returns-2 : tie.Need-returns-2 Inv-loop μ-loop
+returns-2 c =
+    let called = c .before .before in
+    let asked = called .before .before .before in
+    let else1 = asked .before in
+    let one = asked .is-kept .ensures (called .before .before .if2 .taken) in
+    kept _ _ _ (called .collect .result) _ (passed _ _ (tested (else1 .before)) (else1 .if1 .left)) (one .0) (one .1)
+    (called .collect .ensures)
+
 loop-holds : tie.Need-loop-holds Inv-loop μ-loop
-loop-holds c = begun _ _ _ (passed _ _ (tested (c .before)) (c .if1 .left))
+loop-holds c = let else1 = c .before .before in begun _ _ _ (passed _ _ (tested (else1 .before)) (else1 .if1 .left))
 
 valid-step-requires : tie.Need-valid-step-requires Inv-loop μ-loop
 valid-step-requires c κs =
@@ -56,7 +66,7 @@ add-at c =
     let called = at-valid-step c in
     let in-loop = in-loop-of called in
     let u = valid-step-used (in-loop .before .loop .inv) (in-loop .loop-test .taken) (called .valid-step .ensures .0) in
-    let at-are-valid = in-loop .before .before .before in
+    let at-are-valid = in-loop .before .before .before .before .before in
     let start = start-of at-are-valid in
     omega (arith, start .good .1 .0)
 
@@ -74,8 +84,8 @@ loop-again c =
     went (in-loop .before .loop .inv) (in-loop .loop-test .taken) (called .valid-step .ensures .0) (called .valid-step .ensures .1)
     (search needs) (search needs) (search needs) (search needs)
 
-returns-2 : tie.Need-returns-2 Inv-loop μ-loop
-returns-2 c = over (c .before .loop .inv) (c .loop-test .left)
+returns-3 : tie.Need-returns-3 Inv-loop μ-loop
+returns-3 c = over (c .before .loop .inv) (c .loop-test .left)
 
 pub receive-spec : {M : Type 1} → statement M
 receive-spec =
@@ -83,6 +93,7 @@ receive-spec =
     (tie.spec
     Inv-loop μ-loop (λ c. search needs) (λ c. search needs) (λ c. search needs) (λ c κs. search needs) (λ c. search needs)
     (λ c. search needs) (λ c. search needs) (λ c. search needs) returns
+    (λ c κs. search needs) (λ c κs. search needs) (λ c. search needs) (λ c. search needs) (λ c. search needs) (λ c. search needs) returns-2
     loop-holds
     (λ c. search needs) (λ c. search needs) (λ c. search needs) valid-step-requires add-at loop-less loop-again
-    (λ c. search needs) (λ c. search needs) (λ c. search needs) (λ c. search needs) returns-2)
+    (λ c. search needs) (λ c. search needs) (λ c. search needs) (λ c. search needs) returns-3)
