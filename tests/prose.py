@@ -24,7 +24,7 @@ SENTENCES, CELLS, LINES, UNKNOWN = (f'sentences of more than {MOST_WORDS} words'
                                     f'lines wider than {WIDEST_LINE} columns', 'words without an entry in the glossary')
 UNUSED, MINUTES = 'entries of the glossary that no document uses', 'documents without their minutes'
 # what an older document is allowed: exactly so many faults of a kind
-EXCEPTIONS = {('README.md', SENTENCES): 23, ('README.md', LINES): 65}
+EXCEPTIONS = {}
 # words that the papers or this project use in a sense of their own; the glossary has each that a document uses
 WORDS = ' '.join('''
     document 01, document 02, source document 003, demand, item, impostor, sentence, message, body, magic, sequence, form, code byte, full

@@ -23,7 +23,7 @@ import sources  # noqa: E402
 
 CLAIMS = ROOT / 'docs' / 'CLAIMS.md'
 # the other documents that give names; CHANGES has those of its time
-DOCUMENTS = ('README.md', *(f'docs/{name}.md' for name in ('PROMISES', 'DECISIONS', 'DEVELOPING', 'STATE', 'CHECKSUM', 'FIRMWARE')))
+DOCUMENTS = ('README.md', *(f'docs/{name}.md' for name in ('PROMISES', 'DECISIONS', 'DEVELOPING', 'STATE', 'CHECKSUM', 'FIRMWARE', 'BOTH_ENDS', 'PASSPHRASE')))
 STATEMENTS = re.compile(r'^(Demand\d+|Item\d+|BothEnds|Claims)$')
 # words of a proof, which no definition has
 PROOF = re.compile(r'(?<![\w.-])(rw|simp|omega|cc|refl|absurd|search|unfolding)(?![\w-])')
