@@ -105,9 +105,10 @@ def figures(rows):
 
 
 def unexplained(lines):
-    """Notes on the figures' reasons: those not had that have none, and those had that have one. The first column names a figure, and its state behind a comma."""
+    """Notes on the figures' reasons: those not had that have none, and those had that have one. The first column of the reasons' table, where there
+    is one, names a figure, and its state behind a comma."""
     cells = [[cell.strip() for cell in line.split('|')] for line in lines if line.startswith('|')]
-    start = next(place for place, line in enumerate(cells) if line[1:3] == WHY)
+    start = next((place for place, line in enumerate(cells) if line[1:3] == WHY), len(cells))
     reasons = {line[1] for line in cells[start + 2:start + 2 + len(FIGURES)] if len(line) == len(cells[start])}
     for line in cells:
         figure = ', '.join(line[1:3]) if line[2] != 'any' else line[1]

@@ -1014,89 +1014,89 @@ uint32_t oatcastle_rot_crc(const uint8_t *bytes, oatcastle_length bytes_length,
  * ---- Table by docs/firmware.py
  *                                x86-64     M4     M0   RV32  Instructions, M4          -Os     -O2
  * oatcastle_line_start              144      8      8     16                         12,451  12,451
- * oatcastle_line_read               424    560    608    480  no data                 1,449   1,267
- *                                                             4,104 bytes           104,479 104,948
+ * oatcastle_line_read               392    544    584    480  no data                 1,223   1,019
+ *                                                             4,104 bytes            89,233  89,708
  * oatcastle_line_data               136     16     32      0  no data                    43      44
  *                                                             4,104 bytes            16,479  16,480
  * oatcastle_line_tail               136      0     16      0                             26      26
- * oatcastle_line_write            4,584  4,936  5,024  4,912  no data                 1,299   1,294
- *                                                             4,104 bytes           120,280 119,923
+ * oatcastle_line_write            4,600  4,896  5,016  4,912  no data                   882     893
+ *                                                             4,104 bytes           103,882 102,699
  * oatcastle_line_checksum           216    320    352    288  no byte                    41      39
- *                                                             4,104 bytes            32,698  32,343
- * oatcastle_start                   176     56     72     64                         88,296  88,286
- * oatcastle_receive               5,016  5,728  6,224  5,920  a byte                    574     545
- *                                                             a status request        4,049   3,764
- *                                                             a set of 4,096 bytes  128,021 128,391
- *                                                             a set of key 6         18,014  17,749
- *                                                             no byte                   331     293
- *                                                             16 bytes                  696     673
- *                                                             64 bytes                1,228   1,216
- *                                                             lookup of 4,096       122,565 121,848
- *                                                             full: no byte           1,188   1,087
- *                                                             full: 16 bytes          1,553   1,467
- *                                                             full: 64 bytes          2,084   2,011
- *                                                             full: a byte            1,428   1,336
- *                                                             full: status request    4,901   4,554
- *                                                             full: lookup of 4,096 123,421 122,641
- *                                                             full: set of 4,096    128,975 129,282
- * oatcastle_collect                 472    608    680    512  a byte                     61      61
- *                                                             16 bytes                  161     161
- *                                                             64 bytes                  486     486
- * oatcastle_step                  5,128  5,888  6,472  6,224  a byte                    749     722
- *                                                             a status request        4,102   3,818
- *                                                             a set of 4,096 bytes  128,081 128,449
- *                                                             a set of key 6         18,074  17,808
- * oatcastle_clear_counters          136      8      8     16                            124     124
- * oatcastle_receive_counted       5,032  5,840  6,336  6,016  a byte                  1,226     578
- *                                                             a status request        4,704   3,800
- *                                                             a set of 4,096 bytes  128,681 128,431
- *                                                             a set of key 6         18,674  17,790
- *                                                             16 bytes                1,350     706
- *                                                             64 bytes                1,883   1,252
- *                                                             full: 16 bytes          2,206   1,501
- *                                                             full: 64 bytes          2,739   2,046
- *                                                             full: a byte            2,081   1,371
- * oatcastle_step_counted          5,144  5,976  6,560  6,304  a byte                  1,081     734
- *                                                             a status request        4,437   3,834
- *                                                             a set of 4,096 bytes  128,416 128,466
- *                                                             a set of key 6         18,409  17,826
- * oatcastle_take                    152     64     96     48  37 bytes                  307     278
- *                                                             an image block         20,759  20,731
- * oatcastle_post                    160    140    204    128  no text                   227     133
+ *                                                             4,104 bytes            32,699  32,343
+ * oatcastle_start                   176     56     72     64                         88,297  88,286
+ * oatcastle_receive               5,080  5,704  6,232  5,936  a byte                    411     373
+ *                                                             a status request        2,998   2,706
+ *                                                             a set of 4,096 bytes  112,298 112,696
+ *                                                             a set of key 6         17,043  16,787
+ *                                                             no byte                   334     296
+ *                                                             16 bytes                  721     683
+ *                                                             64 bytes                1,218   1,199
+ *                                                             lookup of 4,096       104,921 104,383
+ *                                                             full: no byte           1,190   1,089
+ *                                                             full: 16 bytes          1,579   1,476
+ *                                                             full: 64 bytes          2,074   1,994
+ *                                                             full: a byte            1,264   1,164
+ *                                                             full: status request    3,849   3,494
+ *                                                             full: lookup of 4,096 105,778 105,176
+ *                                                             full: set of 4,096    113,241 113,573
+ * oatcastle_collect                 472    632    688    576  a byte                     88      88
+ *                                                             16 bytes                  181     181
+ *                                                             64 bytes                  481     481
+ * oatcastle_step                  5,144  5,848  6,464  6,224  a byte                    775     731
+ *                                                             a status request        3,043   2,751
+ *                                                             a set of 4,096 bytes  112,348 112,746
+ *                                                             a set of key 6         17,095  16,838
+ * oatcastle_clear_counters          136      8      8     16                            123     124
+ * oatcastle_receive_counted       5,048  5,800  6,328  6,016  a byte                  1,252     586
+ *                                                             a status request        3,646   2,734
+ *                                                             a set of 4,096 bytes  112,949 112,728
+ *                                                             a set of key 6         17,696  16,819
+ *                                                             16 bytes                1,368     709
+ *                                                             64 bytes                1,864   1,226
+ *                                                             full: 16 bytes          2,224   1,503
+ *                                                             full: 64 bytes          2,721   2,021
+ *                                                             full: a byte            2,108   1,379
+ * oatcastle_step_counted          5,160  5,936  6,552  6,304  a byte                  1,106     744
+ *                                                             a status request        3,378   2,768
+ *                                                             a set of 4,096 bytes  112,684 112,764
+ *                                                             a set of key 6         17,429  16,854
+ * oatcastle_take                    152     64     96     48  37 bytes                  306     278
+ *                                                             an image block         20,760  20,731
+ * oatcastle_post                    160    140    204    128  no text                   226     133
  *                                                             256 bytes               1,534   1,439
- * oatcastle_set_options             136     32    112     96                            105     106
+ * oatcastle_set_options             136     32    112     96                            106     105
  * oatcastle_lookup                  232    184    208    240  key 0                     471     338
  *                                                             4,096 bytes            17,929  17,801
  * oatcastle_edition                 200    144    160    192                            304     196
- * oatcastle_save                    344    416    480    384  no setting                181     180
+ * oatcastle_save                    344    416    480    384  no setting                181     179
  *                                                             8,483 bytes           118,999 118,203
- * oatcastle_restore                 296    384    464    368  no setting                161     159
- *                                                             8,483 bytes           119,012 118,224
- * oatcastle_signal                  136     92    100     64                            202     143
+ * oatcastle_restore                 296    384    464    368  no setting                160     159
+ *                                                             8,483 bytes           119,011 118,224
+ * oatcastle_signal                  136     92    100     64                            201     143
  * oatcastle_flags                   136     32     88     80                            116     116
- * oatcastle_boot_failure_record     184    104    216    192  none                      253     253
- *                                                             512 bytes               2,362   2,362
+ * oatcastle_boot_failure_record     184    104    216    192  none                      253     254
+ *                                                             512 bytes               2,361   2,361
  * oatcastle_panic_record            184    104    216    192  none                      251     251
- *                                                             512 bytes               2,362   2,362
- * oatcastle_requester_start         160     16     16     16                         24,822  24,821
- * oatcastle_requester_request     4,568  4,984  5,136  5,008  no data                 1,629   1,416
- *                                                             4,104 bytes           141,147 140,583
- * oatcastle_requester_interrupt     200    156    212    176                            308     108
- * oatcastle_requester_send        4,616  4,960  5,088  4,976  no data                 1,701   1,387
- *                                                             4,104 bytes           120,679 120,013
- * oatcastle_requester_receive       488    712    792    672  37 bytes                2,481   1,898
- *                                                             4,104 bytes           105,031 105,095
+ *                                                             512 bytes               2,361   2,361
+ * oatcastle_requester_start         160     16     16     16                         24,822  24,822
+ * oatcastle_requester_request     4,584  4,944  5,128  5,008  no data                 1,211   1,016
+ *                                                             4,104 bytes           124,748 123,359
+ * oatcastle_requester_interrupt     200    156    212    176                            309     108
+ * oatcastle_requester_send        4,632  4,920  5,080  4,976  no data                 1,283     986
+ *                                                             4,104 bytes           104,281 102,789
+ * oatcastle_requester_receive       456    696    768    672  37 bytes                2,198   1,603
+ *                                                             4,104 bytes            89,809  89,882
  * oatcastle_requester_state         216    164    212    160                            428     118
- * oatcastle_addresses               280    160    256    160                            646     636
- * oatcastle_plan                    136     16     40     16                             31      23
+ * oatcastle_addresses               280    160    256    160                            647     635
+ * oatcastle_plan                    136     16     40     16                             30      23
  * oatcastle_probe_update            144     40     56      0  1 part                     64      64
- *                                                             64 parts                1,862   1,861
+ *                                                             64 parts                1,862   1,862
  * oatcastle_rot_read              1,168  1,252  1,300  1,312  no payload              1,869   1,796
- *                                                             512 bytes              10,357  10,285
+ *                                                             512 bytes              10,356  10,284
  * oatcastle_rot_payload           1,152  1,188  1,228  1,232  512 bytes               9,993   9,911
- * oatcastle_rot_write             1,152  1,212  1,260  1,264  no payload                918     892
- *                                                             512 bytes               6,444   6,419
- * oatcastle_rot_crc               1,040  1,056  1,096  1,088  no byte                   784     784
+ * oatcastle_rot_write             1,152  1,212  1,260  1,264  no payload                918     891
+ *                                                             512 bytes               6,444   6,418
+ * oatcastle_rot_crc               1,040  1,056  1,096  1,088  no byte                   784     785
  *                                                             512 bytes               3,739   3,739
  * ---- End of the table
  */
