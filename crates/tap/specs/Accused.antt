@@ -96,7 +96,7 @@ abbrev pub staleBy : Option ℕ → ℕ → Accusation
 staleBy none newest = otherValue
 staleBy (some older) newest = stale older newest
 
--- the newest set's own value is not stale: then it is too long alone
+-- the newest set's own value is not stale: then it is too long, and a wrong value
 abbrev pub isNewest : List ℕ → List SetSeen → Bool
 isNewest value [] = false
 isNewest value (x ∷ xs) = equal value (x .value)

@@ -132,13 +132,13 @@ CutAnywhere = (es fs : List Event) (bs cs : List ℕ)
 pub record TapClaims : Type 0 where
   -- The capture that any calls make, with any stretches left out, each replaced by the mark of missed bytes, and then delayed, earns no
   -- accusation. So an accusation shows that the chip on the wire is not this supervisor; or that the tap did not see just the bytes that it
-  -- read and sent; or that a mark is missing, or bytes crossed one.
+  -- read and sent, or saw one towards it too late or one from it too early; or that a mark is missing, or bytes crossed one.
   pub never-accused : NeverAccused
   -- a capture that does not begin with a start is listed as one behind missed bytes
   pub begins-anywhere : BeginsAnywhere
   -- In a capture at the calls, a reply that was taken whole between two frames, and not behind one that a start cut off, is judged exactly
-  -- where no other frame may have earned its number since the frame that a judged reply last answered. So the first claim is not met by a
-  -- tap that judges nothing.
+  -- where no other frame may have earned its number since the frame that a judged reply last answered. What may be so goes by the numbers
+  -- that the tap keeps (`mayHold`).
   pub judged-exactly : JudgedExactly
   -- and without a start behind the first one no reply is cut off
   pub one-start-cuts-none : OneStartCutsNone
