@@ -1,5 +1,7 @@
 // Runs the commands of tests/address_cases.py, read from standard input, and prints a line for each case.
 // Assumes nothing: a line longer than the room for it is taken in pieces.
+#![tactic(auto)]
+
 use addresses::{ADDRESS_LENGTH, Planned, ROWS};
 use text_lines::{fields, streams};
 

@@ -1,5 +1,7 @@
 // The address plan: the first eight addresses of a plan by value, and whether its last counted address passes ff:ff:ff:ff:ff:ff.
 // Assumes nothing: no function has a `requires`, and nothing is lent.
+#![tactic(auto)]
+
 ghost use Rattle.std.specs.Prelude.{◌≡◌, ◌≤◌, ◌<◌, min};
 ghost use Rattle.addresses.specs.Addresses.{address_number, highest_address, passes, addresses_promise, plan_promise, plan_report};
 ghost use Rattle.addresses.specs.Addresses.{next_row};

@@ -1,5 +1,7 @@
 // The audit program of document 02: reads a capture from standard input and writes the plain reader's listing of it as lines of text.
 // Assumes nothing: output that cannot be written is lost.
+#![tactic(auto)]
+
 ghost use Rattle.std.specs.Prelude.{◌∷◌, ◌++◌, [], ◌+◌, ◌*◌, ◌≤◌, length};
 ghost use Rattle.octets.specs.Bytes.{run};
 ghost use Rattle.plain.specs.Listing.{listed_frame, listing};

@@ -1,2 +1,4 @@
 // The customer's demands and requests: specs/ states them, proofs/ proves them.
 // No code.
+#![tactic(auto)]
+

@@ -1,5 +1,7 @@
 // How a frame ended, and the block of nine counters that counts such ends; the caller owns the block.
 // Assumes nothing: no function has a `requires`, and no block is refused.
+#![tactic(auto)]
+
 pub mod outcome;
 
 ghost use Rattle.std.specs.Prelude.{◌≡◌};
@@ -14,7 +16,7 @@ const MOST_COUNTED: u32 = 4294967295;
 
 // How many frames there were of each kind: good requests, empty frames, and failures by the reason's number.
 #[repr(C)]
-#[derive(Drop)]
+#[derive(Clone, Copy)]
 pub struct Counters {
     pub good: u32,
     pub empty: u32,

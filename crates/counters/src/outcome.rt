@@ -2,7 +2,7 @@
 // Assumes nothing.
 
 // What a call of `step` answers; `step_report` and `served_report` in specs/Ended.antt give document 01's numbers.
-#[derive(Drop)]
+#[derive(Clone, Copy)]
 pub enum Outcome {
     Refused,
     More,

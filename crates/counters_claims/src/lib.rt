@@ -1,2 +1,4 @@
 // The claims over the field counters: specs/ states them, proofs/ proves them.
 // No code.
+#![tactic(auto)]
+

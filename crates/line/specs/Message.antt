@@ -6,7 +6,7 @@ use Rattle.line.specs.Limits.{longest_data}
 use Rattle.line.specs.Checksum.{checksum}
 
 abbrev pub magic : ℕ
-magic = 0x01_de19_cc
+magic = 0x01DE19CC
 
 -- `payload` is the paper's data
 pub record Message : Type 0 where

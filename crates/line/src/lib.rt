@@ -1,5 +1,7 @@
 // The line layer of document 01: checksum, COBS frames, messages; the reader and the writer.
 // No public function has a `requires`; each promise settles the result and every byte lent.
+#![tactic(auto)]
+
 mod cobs;
 pub mod limits;
 pub mod numbers;

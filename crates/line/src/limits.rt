@@ -1,6 +1,6 @@
 // The line layer's limits, each in one place; specs/Limits.antt has the same.
 // Assumes nothing.
-pub(crate) const MAGIC: u32 = 0x01_de19_cc;
+pub(crate) const MAGIC: u32 = 0x01DE19CC;
 
 pub(crate) const HEADER_LENGTH: usize = 17;
 

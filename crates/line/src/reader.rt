@@ -35,7 +35,7 @@ const PART: usize = 65536;
 const DATA_OFFSET: usize = FRAME_OFFSET + limits::HEADER_LENGTH;
 
 // A message that was handed out; its data lie in the state.
-#[derive(Drop)]
+#[derive(Clone, Copy)]
 pub struct Head {
     pub version: u32,
     pub sequence: u64,

@@ -15,7 +15,7 @@ const STATE_FILL: u8 = 0xa5;
 const OUT_FILL: u8 = 0xee;
 
 // The lent state, the piece and how many bytes it has, the lent output and how many bytes the last write put out.
-#[derive(Drop)]
+#[derive(Clone, Copy)]
 pub(crate) struct Case {
     pub state: [u8; STATE_ROOM],
     pub piece: [u8; PIECE_ROOM],

@@ -1,5 +1,7 @@
 // Runs of bytes and little-endian numbers on lent slices. Every function is total: a byte past the
 // end reads as 0, and nothing is written where it does not fit.
+#![tactic(auto)]
+
 ghost use Rattle.std.specs.Prelude.{◌≡◌, ◌<◌, min, replicate};
 ghost use Rattle.octets.specs.Bytes.{bytes, run, number_at, put, copied, moved_down, same_run};
 ghost use Rattle.octets.specs.Places.{part_place};

@@ -1,5 +1,7 @@
 // The plain reader: a captured stream split at its zeros, and each frame decoded and tested, byte by byte. It has no code of the line
 // layer, only the meaning, `split` and `judge`. Assumes nothing: no public function has a `requires`.
+#![tactic(auto)]
+
 ghost use Rattle.std.specs.Prelude.{◌≡◌, ◌+◌, ◌≤◌, ◌<◌, length, take, drop};
 ghost use Rattle.std.proofs.Math.Option.{some};
 ghost use Rattle.octets.specs.Bytes.{overlay};
@@ -19,7 +21,7 @@ const LONGEST_MESSAGE: usize = 4123;
 // Magic, version, sequence, command and checksum: a message without data.
 const SHORTEST_MESSAGE: usize = 19;
 
-const MAGIC: u32 = 0x01_de19_cc;
+const MAGIC: u32 = 0x01DE19CC;
 
 // What begins at an offset of a capture: a frame with so many bytes before its 00, or the unfinished tail of so many bytes.
 #[derive(Drop)]

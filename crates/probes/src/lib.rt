@@ -1,5 +1,7 @@
 // The bus driver's probe list: one record per part, lent by the caller and brought up to date in place.
 // Assumes nothing: no function has a `requires`.
+#![tactic(auto)]
+
 ghost use Rattle.std.specs.Prelude.{◌≡◌};
 ghost use Rattle.probes.specs.Probes.{probe_change, good_change, good, result_set, update_outcome, update_promise};
 

@@ -1,5 +1,7 @@
 // The replay program of document 01: standard input goes to a fresh supervisor byte by byte, and what it sends to standard output.
 // Assumes nothing: output that cannot be written is lost.
+#![tactic(auto)]
+
 ghost use Rattle.std.specs.Prelude.{◌≡◌, [], ◌+◌, ◌≤◌, length};
 ghost use Rattle.octets.specs.Bytes.{overlay};
 ghost use Rattle.supervisor.specs.Limits.{most_pending};

@@ -1,5 +1,7 @@
 // The main processor's end of document 02, item 2: one request outstanding, recoveries, and the replies read in pieces.
 // No public function has a `requires`; each promise settles the result and every byte lent.
+#![tactic(auto)]
+
 mod hearing;
 pub mod layout;
 pub mod number;

@@ -9,7 +9,7 @@ use line::numbers;
 #[derive(Drop)]
 pub struct RequestNumber(pub u64);
 
-#[derive(Drop)]
+#[derive(Clone, Copy)]
 pub struct ReplyNumber(pub u64);
 
 // The sequence of a reply to a request.

@@ -10,7 +10,7 @@ use crate::{hearing, layout, progress, valid};
 use line::reader::Unfinished;
 
 // How many bytes were read, what is handed out, whether a recovery ended with 14 (`end_report`), and whether a frame is to go out.
-#[derive(Drop)]
+#[derive(Clone, Copy)]
 pub struct Received {
     pub used: usize,
     pub handed: Handed,

@@ -1,5 +1,7 @@
 // Runs the cases of tests/requester_cases.py, read from standard input, over every call of the main processor's end.
 // Assumes nothing: what is out of range is passed over.
+#![tactic(auto)]
+
 mod print;
 mod run;
 

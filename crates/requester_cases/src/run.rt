@@ -22,7 +22,7 @@ const OUT_FILL: u8 = 0xee;
 
 // The parts and how many bytes of each are lent, and the piece and how many bytes it has.
 // Then the lent output, and the digest noted of the parts.
-#[derive(Drop)]
+#[derive(Clone, Copy)]
 pub(crate) struct Case {
     pub reader: [u8; READER_ROOM],
     pub requester: [u8; REQUESTER_ROOM],

@@ -1,2 +1,4 @@
 // The claims over the main processor's end: specs/ states them, proofs/ proves them.
 // No code.
+#![tactic(auto)]
+

@@ -1,5 +1,7 @@
 // The supervisor's requests: what each does and its reply, and the calls that receive, with counters or without.
 // No public function has a `requires`; each promise settles the result and every byte lent.
+#![tactic(auto)]
+
 mod alert;
 mod answers;
 pub mod counting;

@@ -1,5 +1,7 @@
 // Runs the commands of tests/rot_cases.py, read from standard input, and prints a line for each case.
 // Assumes nothing: a line longer than the room for it is taken in pieces.
+#![tactic(auto)]
+
 mod print;
 mod run;
 

@@ -11,7 +11,7 @@ const OUT_ROOM: usize = 600;
 const OUT_FILL: u8 = 0xee;
 
 // The piece and how many bytes it has, the lent output and how many bytes the last call wrote.
-#[derive(Drop)]
+#[derive(Clone, Copy)]
 pub(crate) struct Case {
     pub piece: [u8; PIECE_ROOM],
     pub piece_count: usize,

@@ -29,7 +29,7 @@ pub enum EditionFound {
 }
 
 // Where a key's value lies: from which byte, and how many; the value of a key that is only set is not handed out.
-#[derive(Drop)]
+#[derive(Clone, Copy)]
 pub enum Location {
     Factory(usize, usize),
     Settings(usize, usize),

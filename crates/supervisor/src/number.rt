@@ -5,7 +5,7 @@ ghost use Rattle.supervisor.specs.Number.{reply_number};
 
 use line::numbers;
 
-#[derive(Drop)]
+#[derive(Clone, Copy)]
 pub struct RequestNumber(pub u64);
 
 #[derive(Drop)]

@@ -28,7 +28,7 @@ pub enum FlagsRead {
     Read(Asked),
 }
 
-#[derive(Drop)]
+#[derive(Clone, Copy)]
 pub enum Kind {
     BootFailure,
     Panic,

@@ -15,7 +15,7 @@ const PART_FILL: u8 = 0xa5;
 
 // The start data; the piece and the image, and how many bytes each has.
 // Then the digests noted of the reader and the outbox, and of the stores and the registers.
-#[derive(Drop)]
+#[derive(Clone, Copy)]
 pub(crate) struct Own {
     pub data: [u8; layout::START_LENGTH],
     pub piece: [u8; PIECE_ROOM],
@@ -27,7 +27,7 @@ pub(crate) struct Own {
 }
 
 // The parts, how many bytes of each are lent, and how many bytes the last step used.
-#[derive(Drop)]
+#[derive(Clone, Copy)]
 pub(crate) struct Parts {
     pub reader: [u8; PART_ROOM],
     pub outbox: [u8; PART_ROOM],

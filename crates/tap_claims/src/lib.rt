@@ -1,2 +1,4 @@
 // The claims over a tap on the wire: specs/ states them, proofs/ proves them.
 // No code.
+#![tactic(auto)]
+

@@ -1,5 +1,7 @@
 // The wiretap: reads events of a tap on the wire from standard input and writes a line for each frame.
 // Assumes nothing: output that cannot be written is lost.
+#![tactic(auto)]
+
 mod accused;
 mod accusing;
 mod asking;
