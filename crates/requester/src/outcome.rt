@@ -3,7 +3,7 @@
 use line::reader::Head;
 
 // A status read, and how many of its bits are set.
-#[derive(Drop)]
+#[derive(Clone, Copy)]
 pub struct Status {
     pub status: u64,
     pub options: u64,
@@ -12,7 +12,7 @@ pub struct Status {
 
 // What a call of `receive` hands out; `handed_report` in specs/Calls.antt gives the papers' numbers. The data of an answer lie in the
 // reader's part: `line::reader::message_data` with its length.
-#[derive(Drop)]
+#[derive(Clone, Copy)]
 pub enum Handed {
     Refused,
     Nothing,

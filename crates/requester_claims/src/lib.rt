@@ -1,4 +1,3 @@
 // The claims over the main processor's end: specs/ states them, proofs/ proves them.
 // No code.
 #![tactic(auto)]
-

@@ -38,7 +38,7 @@ pub(crate) struct Parts {
     pub used: usize,
 }
 
-#[derive(Drop)]
+#[derive(Clone, Copy)]
 pub(crate) struct Lent {
     pub reader: usize,
     pub outbox: usize,

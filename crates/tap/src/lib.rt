@@ -1,4 +1,3 @@
 // No code: the meaning of a tap on the wire.
 // Assumes nothing.
 #![tactic(auto)]
-

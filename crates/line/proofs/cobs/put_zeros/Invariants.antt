@@ -1,0 +1,20 @@
+-- `put_zeros` meets its contract. The loop's invariant: k code bytes 01 are passed, and their zeros are put.
+-- Assumes nothing.
+use Prim.Native.Nat.{ℕ, ◌+◌, ◌-◌, ◌≤◌, ◌<◌}
+use mathlib.Core.Path.{◌≡◌, refl, sym}
+use mathlib.Core.Bool.{true}
+use borrow.Author.Rules.{rules}
+use borrow.Author.Tests.{not-false}
+use native.Mathlib.Omega.{arith}
+use lib.ListN.{length, get_or, replicate, length-replicate}
+use Rattle.octets.specs.Bytes.{run, overlay}
+use Rattle.octets.proofs.Overlay.{overlay-none, overlay-get_d-after}
+use Rattle.line.proofs.Alike.{run-alike, put-alike}
+use Rattle.line.proofs.cobs.put_zeros.Given as goal
+
+abbrev pub invariant-loop-k : goal.invariant-loop-k
+invariant-loop-k l =
+    (l.k ≤ l.n - l.i) × (length l.s ≡ length l.initial.s) × (run l.i l.k l.initial.s ≡ replicate l.k 1) × (l.s ≡ overlay l.o (replicate l.k 0) l.initial.s)
+
+abbrev pub decreases-loop-k : goal.decreases-loop-k
+decreases-loop-k l = l.n - l.i - l.k

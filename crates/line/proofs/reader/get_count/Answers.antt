@@ -1,0 +1,10 @@
+-- `line::reader::get_count` meets its contract.
+-- Assumes nothing.
+use borrow.Author.Rules.{rules}
+use Rattle.line.specs.ReaderLayout.{received_count}
+use Rattle.line.proofs.reader.get_count.Goals as goal
+
+pub returns : goal.returns
+unfolding received_count
+returns c =
+    (c.read_u16.ensures, search rules)

@@ -1,0 +1,18 @@
+-- `line::reader::start` meets its contract.
+-- Assumes nothing.
+use borrow.Author.Rules.{rules}
+use borrow.Author.Tests.{le-leb, lt-leb}
+use Rattle.octets.proofs.Zeros.{cleared-fits}
+use Rattle.line.specs.Reader.{reader_length, reader_fresh, reader_start_report, reader_start_promise}
+use Rattle.line.proofs.reader.start.Goals as goal
+
+pub returns-then-state-lt-STATE_LENGTH : goal.returns-then-state-lt-STATE_LENGTH
+unfolding reader_start_report reader_start_promise
+returns-then-state-lt-STATE_LENGTH c =
+    rw (lt-leb _ _ c.if-state-lt-STATE_LENGTH.true)
+
+pub returns : goal.returns
+unfolding reader_start_report reader_start_promise reader_fresh
+returns c =
+    let h = c.if-state-lt-STATE_LENGTH.false in
+    rw (le-leb _ _ h, c.clear.ensures, cleared-fits 0 _ reader_length h)

@@ -1,0 +1,20 @@
+-- `alike` meets its contract. The loop's invariant: where no other byte is found, the first k bytes are alike.
+-- Assumes nothing.
+use Prim.Native.Nat.{◌+◌, ◌-◌, ◌≤◌}
+use mathlib.Core.Path.{◌≡◌, refl}
+use mathlib.Core.Bool.{false, not}
+use borrow.Author.Rules.{rules}
+use borrow.Author.Tests.{eqb-true, not-true, not-false}
+use native.Mathlib.Omega.{arith}
+use lib.Dec.{eqb}
+use lib.ListN.{get_or, replicate}
+use Rattle.octets.specs.Bytes.{run}
+use Rattle.line.proofs.Runs.{or-false}
+use Rattle.line.proofs.Alike.{failed, run-alike}
+use Rattle.line.proofs.scan.alike.Given as goal
+
+abbrev pub invariant-loop-k : goal.invariant-loop-k
+invariant-loop-k l = (l.k ≤ l.n) × (l.other ≡ false → run l.at l.k l.s ≡ replicate l.k l.b)
+
+abbrev pub decreases-loop-k : goal.decreases-loop-k
+decreases-loop-k l = l.n - l.k

@@ -1,0 +1,43 @@
+-- `copy_run` meets its contract. The loop's invariant: k bytes of the run are passed and put.
+-- Assumes nothing.
+use Prim.Native.Nat.{◌-◌, ◌≤◌}
+use mathlib.Core.Path.{◌≡◌, refl, sym, ◌∙◌}
+use borrow.Author.Rules.{rules}
+use native.Mathlib.Omega.{arith}
+use lib.ListN.{length, drop, length-drop}
+use lib.Seq.{get_or-drop}
+use Rattle.octets.specs.Bytes.{run, overlay}
+use Rattle.octets.proofs.Overlay.{overlay-none, overlay-run-more}
+use Rattle.line.specs.Runs.{nonzero, run_length}
+use Rattle.line.proofs.Runs.{reached-none, reached-more, reached-zero, reached-end}
+use Rattle.line.proofs.scan.copy_run.Goals as goal
+
+pub loop-k-init : goal.loop-k-init
+loop-k-init c =
+    (search rules, refl, sym (overlay-none _ _), reached-none _ _)
+
+pub returns-then-b-eq0 : goal.returns-then-b-eq0
+returns-then-b-eq0 c =
+    let l = c.loop-k in
+    let a = c.args in
+    let n = length-drop a.from a.s.now in
+    let b = get_or-drop a.from a.s.now l.k 0 in
+    (sym (l.invariant.3 ∙ reached-zero a.most l.k (drop a.from a.s.now) (omega arith) (omega arith)), l.invariant.2)
+
+pub loop-k-preserved : goal.loop-k-preserved
+loop-k-preserved c =
+    let l = c.loop-k in
+    let a = c.args in
+    let n = length-drop a.from a.s.now in
+    let b = get_or-drop a.from a.s.now l.k 0 in (
+      search rules,
+      search rules,
+      rw l.invariant.2 (overlay-run-more a.at a.from l.k a.s.now a.dst.now (omega arith) (omega arith)),
+      l.invariant.3 ∙ reached-more a.most l.k (drop a.from a.s.now) (omega arith) (omega arith) (omega arith),
+    )
+
+pub returns : goal.returns
+returns c =
+    let l = c.loop-k in
+    let a = c.args in
+    (sym (l.invariant.3 ∙ reached-end a.most l.k (drop a.from a.s.now) (omega arith)), l.invariant.2)

@@ -1,0 +1,21 @@
+-- `copy_run` meets its contract. The loop's invariant: k bytes of the run are passed and put.
+-- Assumes nothing.
+use Prim.Native.Nat.{◌-◌, ◌≤◌}
+use mathlib.Core.Path.{◌≡◌, refl, sym, ◌∙◌}
+use borrow.Author.Rules.{rules}
+use native.Mathlib.Omega.{arith}
+use lib.ListN.{length, drop, length-drop}
+use lib.Seq.{get_or-drop}
+use Rattle.octets.specs.Bytes.{run, overlay}
+use Rattle.octets.proofs.Overlay.{overlay-none, overlay-run-more}
+use Rattle.line.specs.Runs.{nonzero, run_length}
+use Rattle.line.proofs.Runs.{reached-none, reached-more, reached-zero, reached-end}
+use Rattle.line.proofs.scan.copy_run.Given as goal
+
+abbrev pub invariant-loop-k : goal.invariant-loop-k
+invariant-loop-k l =
+    (l.k ≤ l.most) × (length l.dst ≡ length l.initial.dst) × (l.dst ≡ overlay l.at (run l.from l.k l.s) l.initial.dst)
+    × (length (nonzero l.most (drop l.from l.s)) ≡ run_length l.most l.k (drop l.from l.s))
+
+abbrev pub decreases-loop-k : goal.decreases-loop-k
+decreases-loop-k l = l.most - l.k

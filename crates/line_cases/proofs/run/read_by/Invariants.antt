@@ -1,0 +1,13 @@
+-- `run::read_by` is safe and ends: the state keeps its length, and each iteration takes what was used.
+-- Assumes nothing.
+use Prim.Native.Nat.{◌-◌, ◌≤◌}
+use mathlib.Core.Path.{◌≡◌}
+use borrow.Author.Rules.{rules}
+use lib.ListN.{length}
+use Rattle.line_cases.proofs.run.read_by.Given as goal
+
+abbrev pub invariant-loop-most : goal.invariant-loop-most
+invariant-loop-most l = (l.at ≤ length l.piece) × (length l.state ≡ length l.initial.state)
+
+abbrev pub decreases-loop-most : goal.decreases-loop-most
+decreases-loop-most l = length l.piece - l.at

@@ -1,0 +1,14 @@
+-- `read_u64` meets its contract: its two halves are joined.
+-- Assumes nothing.
+use borrow.Author.Rules.{rules}
+use Rattle.octets.proofs.Numbers.{number-none, number-join}
+use Rattle.octets.proofs.read_u64.Goals as goal
+
+pub returns-then-s-at : goal.returns-then-s-at
+returns-then-s-at c =
+    number-none 8 _ _ c.if-s-at.true
+
+pub returns : goal.returns
+returns c =
+    let a = c.args in
+    rw (c.read_u32-high.ensures, c.read_u32-low.ensures) (number-join 4 4 a.s.now a.at)

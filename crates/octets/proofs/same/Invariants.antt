@@ -1,0 +1,16 @@
+-- `same` meets its contract. The loop's invariant: the first i bytes of the two runs are equal.
+-- Assumes nothing.
+use Prim.Native.Nat.{ℕ, ◌+◌, ◌-◌, ◌≤◌, ◌<◌}
+use mathlib.Core.Path.{◌≡◌, sym}
+use borrow.Author.Count.{below_more}
+use borrow.Author.Rules.{rules}
+use native.Mathlib.Omega.{arith}
+use lib.ListN.{get_or}
+use Rattle.octets.proofs.Equal.{same_run-bytes, same_run-differ, same_run-short-left, same_run-short-right}
+use Rattle.octets.proofs.same.Given as goal
+
+abbrev pub invariant-loop-i : goal.invariant-loop-i
+invariant-loop-i l = (l.i ≤ l.n) × ((k : ℕ) → k < l.i → get_or l.s (l.at + k) 0 ≡ get_or l.t (l.bt + k) 0)
+
+abbrev pub decreases-loop-i : goal.decreases-loop-i
+decreases-loop-i l = l.n - l.i

@@ -1,0 +1,23 @@
+-- `replay::feed_all` meets its contract. The loop's invariant: the bytes up to an offset were replayed; each iteration reads some.
+-- Assumes nothing.
+use mathlib.Core.Path.{◌≡◌, refl, sym}
+use mathlib.Core.List.{[]}
+use Prim.Native.Nat.{◌-◌, ◌≤◌}
+use native.Mathlib.Omega.{arith}
+use borrow.Author.Rules.{rules}
+use lib.ListN.{length, take}
+use lib.Seq.{take_all, length-take-le}
+use Rattle.supervisor.specs.Calls.{parts}
+use Rattle.responder.specs.Replay.{replay_bytes}
+use Rattle.replay.proofs.Feeding.{FedOn, fed-on}
+use Rattle.replay.proofs.feed_all.Given as goal
+
+abbrev pub invariant-loop-at : goal.invariant-loop-at
+invariant-loop-at l =
+    (length l.out ≡ length l.initial.out) × (length l.reader ≡ length l.initial.reader) × (length l.outbox ≡ length l.initial.outbox) × (length l.settings ≡ length l.initial.settings)
+    × (length l.registers ≡ length l.initial.registers) × (l.at ≤ length l.bytes)
+    × (parts l.reader l.outbox l.factory l.settings l.registers
+    ≡ (replay_bytes [] (parts l.initial.reader l.initial.outbox l.factory l.initial.settings l.initial.registers) (take l.at l.bytes)).parts)
+
+abbrev pub decreases-loop-at : goal.decreases-loop-at
+decreases-loop-at l = length l.bytes - l.at

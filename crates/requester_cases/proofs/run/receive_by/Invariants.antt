@@ -1,0 +1,14 @@
+-- `run::receive_by` is safe and ends: the parts keep their lengths, and each iteration takes what was used.
+-- Assumes nothing.
+use Prim.Native.Nat.{◌-◌, ◌≤◌}
+use mathlib.Core.Path.{◌≡◌}
+use borrow.Author.Rules.{rules}
+use lib.ListN.{length}
+use Rattle.requester_cases.proofs.run.receive_by.Given as goal
+
+abbrev pub invariant-loop-most : goal.invariant-loop-most
+invariant-loop-most l =
+    (l.at ≤ length l.piece) × (length l.reader ≡ length l.initial.reader) × (length l.requester ≡ length l.initial.requester)
+
+abbrev pub decreases-loop-most : goal.decreases-loop-most
+decreases-loop-most l = length l.piece - l.at

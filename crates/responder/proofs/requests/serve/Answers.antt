@@ -1,0 +1,36 @@
+-- `responder::requests::serve` meets its contract: a key set, or what any other command does.
+-- Assumes nothing.
+use native.Mathlib.Omega.{arith}
+use borrow.Author.Rules.{rules}
+use borrow.Author.Tests.{ne_eqb}
+use Rattle.supervisor.proofs.ValidLaws.{settings-valid}
+use Rattle.responder.proofs.ReceiveLaws.{key-set-long}
+use Rattle.responder.proofs.KeptLaws.{inner-valid}
+use Rattle.responder.proofs.StepLaws.{judged-set, judged-other}
+use Rattle.responder.proofs.requests.serve.Goals as goal
+
+pub set_key-result-requires : goal.set_key-result-requires
+set_key-result-requires c =
+    let p = c.requires in
+    (p.0, ((settings-valid _ (inner-valid _ p.1.1.0).settings).long, key-set-long _ _ p.1.1.1.1.0 c.if-command-eq-COMMAND_KEY_SET.taken))
+
+pub returns-then-command-eq-COMMAND_KEY_SET : goal.returns-then-command-eq-COMMAND_KEY_SET
+returns-then-command-eq-COMMAND_KEY_SET c =
+    let a = c.args in
+    let p = c.requires in
+    judged-set a.image.now a.factory.now a.outbox.now a.settings.now a.registers.now a.version a.number.0
+    a.command a.«data».now c.if-command-eq-COMMAND_KEY_SET.taken p.1.1.1.1.1 p.1.0 p.1.1.0 p.1.1.1.0
+    (c.read_u8-key.ensures, omega (arith, c.read_u8-key.type-inv)) c.head_to-reply.ensures c.set_key-result.ensures
+
+pub carry-requires : goal.carry-requires
+carry-requires c =
+    let p = c.requires in (
+      p.0,
+      (p.1.0, (p.1.1.0, (p.1.1.1.0, (p.1.1.1.1.0, (p.1.1.1.1.1, ne_eqb _ _ c.if-command-eq-COMMAND_KEY_SET.left))))),
+    )
+
+pub returns : goal.returns
+returns c =
+    let a = c.args in
+    judged-other a.image.now a.factory.now a.outbox.now a.settings.now a.registers.now a.version a.number.0
+    a.command a.«data».now (ne_eqb _ _ c.if-command-eq-COMMAND_KEY_SET.left) c.carry.ensures

@@ -1,0 +1,13 @@
+-- `responder::sending::send` meets its contract.
+-- Assumes nothing.
+use mathlib.Core.List.{◌++◌}
+use borrow.Author.Rules.{rules}
+use Rattle.responder.specs.Receive.{reply_bytes}
+use Rattle.responder.proofs.SendingLaws.{sent}
+use Rattle.responder.proofs.sending.send.Goals as goal
+
+pub returns : goal.returns
+returns c =
+    let a = c.args in
+    sent (reply_bytes a.reply a.command (a.head.now ++ a.rest.now)) a.outbox.now c.requires.0
+    c.write_reply-n.ensures.0 c.write_reply-n.ensures.1.1 c.set_pending.ensures

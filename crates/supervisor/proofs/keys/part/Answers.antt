@@ -1,0 +1,14 @@
+-- `supervisor::keys::part` meets its contract.
+-- Assumes nothing.
+use mathlib.Core.Path.{refl}
+use borrow.Author.Rules.{rules}
+use borrow.Author.Tests.{lt-ltb, le-ltb}
+use Rattle.supervisor.proofs.keys.part.Goals as goal
+
+pub returns-then-most-n : goal.returns-then-most-n
+returns-then-most-n c =
+    rw (lt-ltb _ _ c.if-most-n.true) (refl, refl)
+
+pub returns : goal.returns
+returns c =
+    rw (le-ltb _ _ c.if-most-n.false) c.part.ensures

@@ -1,0 +1,12 @@
+-- `receiving::by_steps` is safe and ends: each iteration takes what was used.
+-- Assumes nothing.
+use Prim.Native.Nat.{◌-◌, ◌≤◌}
+use borrow.Author.Rules.{rules}
+use lib.ListN.{length}
+use Rattle.supervisor_cases.proofs.receiving.by_steps.Given as goal
+
+abbrev pub invariant-loop-now : goal.invariant-loop-now
+invariant-loop-now l = l.at ≤ length l.piece
+
+abbrev pub decreases-loop-now : goal.decreases-loop-now
+decreases-loop-now l = length l.piece - l.at

@@ -1,0 +1,8 @@
+-- `fields::decimal` meets its contract.
+-- Assumes nothing.
+use borrow.Author.Rules.{rules}
+use Rattle.text_lines.proofs.fields.decimal.Goals as goal
+
+pub returns : goal.returns
+returns c =
+    rw (← c.field.ensures.0) c.number.ensures

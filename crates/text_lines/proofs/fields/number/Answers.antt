@@ -1,0 +1,24 @@
+-- `fields::number` meets its contract. The loop keeps what the number comes to with the digits that are left.
+-- Assumes nothing.
+use mathlib.Core.Path.{◌≡◌, refl, sym, ◌∙◌}
+use Prim.Native.Nat.{◌-◌}
+use borrow.Author.Rules.{rules}
+use lib.ListN.{length, drop}
+use Rattle.text_lines.specs.Fields.{digit, with_digits}
+use Rattle.text_lines.proofs.Laws.{digits-one, digits-none, digits-end}
+use Rattle.text_lines.proofs.fields.number.Goals as goal
+
+pub returns-then-base-d : goal.returns-then-base-d
+returns-then-base-d c =
+    let l = c.loop-i in
+    sym (digits-none _ l.value l.i _ (search rules) (rw c.digit-d.ensures.0 at c.if-base-d.true)) ∙ l.invariant
+
+pub loop-i-preserved : goal.loop-i-preserved
+loop-i-preserved c =
+    let l = c.loop-i in
+    let e = c.digit-d.ensures.0 in
+    rw (c.with_digit-value.ensures, e) (sym (digits-one _ l.value l.i _ (search rules) (rw e at c.if-base-d.false)) ∙ l.invariant)
+
+pub returns : goal.returns
+returns c =
+    let l = c.loop-i in sym (digits-end _ l.value l.i _ (search rules)) ∙ l.invariant

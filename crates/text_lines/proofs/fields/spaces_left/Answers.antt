@@ -1,0 +1,13 @@
+-- `fields::spaces_left` meets its contract, by whether the byte is a space.
+-- Assumes nothing.
+use borrow.Author.Rules.{rules}
+use borrow.Author.Tests.{eq-eqb, ne_eqb}
+use Rattle.text_lines.proofs.fields.spaces_left.Goals as goal
+
+pub returns-then-b-eq32 : goal.returns-then-b-eq32
+returns-then-b-eq32 c =
+    rw (eq-eqb _ 32 c.if-b-eq32.true)
+
+pub returns : goal.returns
+returns c =
+    rw (ne_eqb _ 32 c.if-b-eq32.false)
