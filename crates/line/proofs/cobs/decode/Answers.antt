@@ -28,7 +28,7 @@ loop-i-preserved-then-ones-gt0 c =
       search rules,
       rw ones.3
           (middle-ones start.args.s.now start.args.n iteration.s iteration.zero iteration.o iteration.i
-          c.put_zeros-ones.result (ones.0 c.if-ones-gt0.true) iteration.inv.2 ones.1 start.pre ones.2),
+          c.put_zeros-ones.result (ones.0 c.if-ones-gt0.true) iteration.invariant.2 ones.1 start.pre ones.2),
     )
 
 -- a group
@@ -41,7 +41,7 @@ loop-i-preserved c =
       rw (c.move_down.ensures, c.put_held.ensures, c.held-o.ensures.0, e)
           (middle-next c.args.s.now c.args.n iteration.s iteration.zero iteration.o iteration.i
           c.code-c.result c.smaller-k.result
-          iteration.inv.2 c.loop-i-test.taken c.pre (rw e at c.code-c.ensures.0)
+          iteration.invariant.2 c.loop-i-test.taken c.pre (rw e at c.code-c.ensures.0)
           (c.smaller-k.ensures
           ∙ ap (λ (m : ℕ). min m (c.args.n - (iteration.i + 1))) c.less_one.ensures)),
     )

@@ -56,7 +56,7 @@ returns-then-c-eq0 c =
     let iteration = c.loop-i in
     counted-zero c.args.s.now c.args.n iteration.i iteration.zero _ c.code-c.result
     c.loop-i-test.taken c.pre c.code-c.ensures.0 c.if-c-eq0.true
-    ∙ sym iteration.inv.2
+    ∙ sym iteration.invariant.2
 
 -- a group that runs past the end
 pub returns-then-n-i : goal.returns-then-n-i
@@ -64,7 +64,7 @@ returns-then-n-i c =
     let iteration = c.loop-i in
     counted-short c.args.s.now c.args.n iteration.i iteration.zero _ c.code-c.result
     c.loop-i-test.taken c.pre c.code-c.ensures.0 c.if-n-i.true
-    ∙ sym iteration.inv.2
+    ∙ sym iteration.invariant.2
 
 -- a last 01 after a full group
 pub returns-then-last_one_after_full : goal.returns-then-last_one_after_full
@@ -72,7 +72,7 @@ returns-then-last_one_after_full c =
     let iteration = c.loop-i in
     counted-last c.args.s.now c.args.n iteration.i iteration.zero _ c.code-c.result
     c.loop-i-test.taken c.pre c.code-c.ensures.0 (sym c.if-last_one_after_full.true ∙ c.last_one_after_full.ensures)
-    ∙ sym iteration.inv.2
+    ∙ sym iteration.invariant.2
 
 -- a group
 pub loop-i-preserved : goal.loop-i-preserved
@@ -81,8 +81,8 @@ loop-i-preserved c =
     let next = one-if-not (leb c.code-c.result 254) in (
       search rules,
       omega arith,
-      rw c.held-full.ensures.0 (iteration.inv.2
-          ∙ counted-group c.args.s.now c.args.n iteration.i iteration.full iteration.zero iteration.inv.1
+      rw c.held-full.ensures.0 (iteration.invariant.2
+          ∙ counted-group c.args.s.now c.args.n iteration.i iteration.full iteration.zero iteration.invariant.1
           c.code-c.result
           c.loop-i-test.taken c.pre c.code-c.ensures.0 c.if-c-eq0.false c.if-n-i.false
           (sym c.if-last_one_after_full.false ∙ c.last_one_after_full.ensures)),

@@ -31,7 +31,7 @@ returns-then-k-n c =
     let l = c.loop-at in
     let p = (c.args.piece.now) in
     let e = (let found-here : c.nonzero_run-k.result ≡ length (nonzero c.min-n.result (drop c.loop-at.at ((c.args.piece.now)))) = cc (rest-mid ((c.args.piece.now)) c.loop-at.at) in found-here) in
-    omega (arith, l.inv.1, reached-stop (length p) l.at c.min-n.result p (omega arith) (omega arith))
+    omega (arith, l.invariant.1, reached-stop (length p) l.at c.min-n.result p (omega arith) (omega arith))
 
 pub loop-at-smaller : goal.loop-at-smaller
 loop-at-smaller c =
@@ -44,7 +44,7 @@ loop-at-preserved c =
     let n = c.min-n.result in
     let e : n ≡ c.nonzero_run-k.result = omega (arith, (let most-here : c.nonzero_run-k.result ≤ c.min-n.result = omega (arith, (let found-here : c.nonzero_run-k.result ≡ length (nonzero c.min-n.result (drop c.loop-at.at ((c.args.piece.now)))) = cc (rest-mid ((c.args.piece.now)) c.loop-at.at) in found-here), nonzero-most c.min-n.result (drop c.loop-at.at ((c.args.piece.now)))) in most-here)) in (
       omega (arith, (let most-here : c.nonzero_run-k.result ≤ c.min-n.result = omega (arith, (let found-here : c.nonzero_run-k.result ≡ length (nonzero c.min-n.result (drop c.loop-at.at ((c.args.piece.now)))) = cc (rest-mid ((c.args.piece.now)) c.loop-at.at) in found-here), nonzero-most c.min-n.result (drop c.loop-at.at ((c.args.piece.now)))) in most-here)),
-      l.inv.1 ∙ reached-block (length p) l.at n p (omega arith) (sym (e ∙ (let found-here : c.nonzero_run-k.result ≡ length (nonzero c.min-n.result (drop c.loop-at.at ((c.args.piece.now)))) = cc (rest-mid ((c.args.piece.now)) c.loop-at.at) in found-here)))
+      l.invariant.1 ∙ reached-block (length p) l.at n p (omega arith) (sym (e ∙ (let found-here : c.nonzero_run-k.result ≡ length (nonzero c.min-n.result (drop c.loop-at.at ((c.args.piece.now)))) = cc (rest-mid ((c.args.piece.now)) c.loop-at.at) in found-here)))
           ∙ ap (λ (m : ℕ). run_length (length p) (l.at + m) p) e,
     )
 

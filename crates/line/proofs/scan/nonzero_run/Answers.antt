@@ -23,7 +23,7 @@ returns-then-s-from-eq0 c =
     let a = c.args in
     let n = length-drop a.from a.s.now in
     let b = get_or-drop a.from a.s.now l.k 0 in
-    sym (l.inv.1 ∙ reached-zero a.most l.k (drop a.from a.s.now) (omega arith) (omega arith))
+    sym (l.invariant.1 ∙ reached-zero a.most l.k (drop a.from a.s.now) (omega arith) (omega arith))
 
 pub loop-k-preserved : goal.loop-k-preserved
 loop-k-preserved c =
@@ -31,7 +31,7 @@ loop-k-preserved c =
     let a = c.args in
     let n = length-drop a.from a.s.now in
     let b = get_or-drop a.from a.s.now l.k 0 in
-    (search rules, l.inv.1 ∙ reached-more a.most l.k (drop a.from a.s.now) (omega arith) (omega arith) (omega arith))
+    (search rules, l.invariant.1 ∙ reached-more a.most l.k (drop a.from a.s.now) (omega arith) (omega arith) (omega arith))
 
 pub returns : goal.returns
 returns c =

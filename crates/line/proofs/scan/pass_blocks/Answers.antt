@@ -27,7 +27,7 @@ loop-k-preserved c =
     let l = c.loop-k in
     let a = c.args in
     let b = rw (← drop-drop l.k a.from a.s.now) at (c.has_zero.ensures c.if-has_zero.false) in
-    (omega arith, l.inv.1 ∙ reached-block a.end l.k a.width (drop a.from a.s.now) (omega arith) b)
+    (omega arith, l.invariant.1 ∙ reached-block a.end l.k a.width (drop a.from a.s.now) (omega arith) b)
 
 pub returns : goal.returns
 returns c =

@@ -18,12 +18,17 @@ loop-i-init c =
 pub returns : goal.returns
 returns c =
     let l = c.loop-i in added-end c.args.row.now l.sums l.i (omega arith) (omega arith) l.invariant.3
-    -- TODO overflow_add-sums: no step requires at In-loop: let l = (at-loop c).loop in
-    omega (arith, l.inv.2 l.i (omega arith), (start_of c).requires.2 l.i)
-    -- TODO loop-i-preserved: no step args at In-loop: let l = (at-loop c).loop in
-    let a = (start_of c).args in (
+
+pub overflow_add-sums : goal.overflow_add-sums
+overflow_add-sums c =
+    let l = c.loop-i in omega (arith, l.invariant.2 l.i (omega arith), c.requires.2 l.i)
+
+pub loop-i-preserved : goal.loop-i-preserved
+loop-i-preserved c =
+    let l = c.loop-i in
+    let a = c.args in (
       search rules,
-      simp length-set l.inv.1,
-      λ k h. get_or-set_other l.sums l.i k _ 0 (λ e. omega arith) ∙ l.inv.2 k (omega arith),
-      added_next a.row.now l.sums l.i _ (omega arith) (omega arith) refl l.inv.3,
+      simp length-set l.invariant.1,
+      λ k h. get_or-set_other l.sums l.i k _ 0 (λ e. omega arith) ∙ l.invariant.2 k (omega arith),
+      added_next a.row.now l.sums l.i _ (omega arith) (omega arith) refl l.invariant.3,
     )

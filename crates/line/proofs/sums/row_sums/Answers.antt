@@ -21,9 +21,11 @@ returns c =
     let row = c.args.row.now in
     let e : take l.i row ≡ row = take_all l.i row (omega arith) in
     record { first_value = (rw e at l.invariant.3, rw e at l.invariant.4); first_bound = (omega arith, omega arith) }
-    -- TODO loop-i-preserved: no step args at At-loop: let start = c.before.before.before.before in
-    let i = c.before.before.before.loop.i in
-    let row = start.args.row.now in (
+
+pub loop-i-preserved : goal.loop-i-preserved
+loop-i-preserved c =
+    let i = c.loop-i.i in
+    let row = c.args.row.now in (
       search rules,
       omega arith,
       omega arith,
