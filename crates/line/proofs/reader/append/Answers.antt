@@ -10,13 +10,19 @@ pub returns-then-n-eq0 : goal.returns-then-n-eq0
 unfolding pushed_all
 returns-then-n-eq0 c =
     rw c.if-n-eq0.true
-    -- TODO returns-then-have-gt-LONGEST_FORM: before the start: let at-get-count = c.before.before.before.before.before in
-    let a = (start at-get-count).args in
+
+pub returns-then-have-gt-LONGEST_FORM : goal.returns-then-have-gt-LONGEST_FORM
+returns-then-have-gt-LONGEST_FORM c =
+    let a = c.args in
     cc (append-over a.state.now a.piece.now a.n (omega arith, omega arith) (omega arith) (omega arith) (omega arith))
-    -- TODO returns-then-room-n: before the start: let at-get-count = c.before.before.before.before.before.before.before.before.before.before in
-    let a = (start at-get-count).args in
+
+pub returns-then-room-n : goal.returns-then-room-n
+returns-then-room-n c =
+    let a = c.args in
     cc (append-some a.state.now a.piece.now a.n (omega arith, omega arith) (omega arith) (omega arith) (omega arith)
     (omega arith))
-    -- TODO returns: before the start: let at-get-count = c.before.before.before.before.before.before.before.before.before.before in
-    let a = (start at-get-count).args in
+
+pub returns : goal.returns
+returns c =
+    let a = c.args in
     cc (append-fit a.state.now a.piece.now a.n (omega arith, omega arith) (omega arith) (omega arith) (omega arith))
