@@ -1,10 +1,9 @@
 -- `form_length` meets its contract. The loop's invariant: o bytes of the form are made of the first i bytes of s.
 -- Assumes nothing.
-use Prim.Native.Nat.{◌*◌, ◌-◌, ◌≤◌}
 use mathlib.Core.Path.{refl}
 use borrow.Author.Rules.{rules}
 use native.Mathlib.Omega.{arith}
-use Rattle.line.proofs.Groups.{Met, NextGroup, next-group, group-last, group-zero, group-full, Zeros, zeros-next}
+use Rattle.line.proofs.Groups.{next-group, group-last, group-zero, group-full, zeros-next}
 use Rattle.line.proofs.cobs.form_length.Goals as goal
 
 pub loop-i-init : goal.loop-i-init

@@ -1,13 +1,10 @@
 -- `put_zeros` meets its contract. The loop's invariant: k code bytes 01 are passed, and their zeros are put.
 -- Assumes nothing.
-use Prim.Native.Nat.{ℕ, ◌+◌, ◌-◌, ◌≤◌, ◌<◌}
+use Prim.Native.Nat.{ℕ, ◌+◌}
 use mathlib.Core.Path.{◌≡◌, refl, sym}
-use mathlib.Core.Bool.{true}
 use borrow.Author.Rules.{rules}
-use borrow.Author.Tests.{not-false}
 use native.Mathlib.Omega.{arith}
-use lib.ListN.{length, get_or, replicate, length-replicate}
-use Rattle.octets.specs.Bytes.{run, overlay}
+use lib.ListN.{get_or, replicate, length-replicate}
 use Rattle.octets.proofs.Overlay.{overlay-none, overlay-get_d-after}
 use Rattle.line.proofs.Alike.{run-alike, put-alike}
 use Rattle.line.proofs.cobs.put_zeros.Goals as goal

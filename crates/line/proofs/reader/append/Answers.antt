@@ -1,7 +1,6 @@
 -- `line::reader::append` meets its contract.
 -- Assumes nothing.
 use native.Mathlib.Omega.{arith}
-use borrow.Author.Rules.{rules}
 use Rattle.line.specs.Reader.{pushed_all}
 use Rattle.line.proofs.State.{append-over, append-some, append-fit}
 use Rattle.line.proofs.reader.append.Goals as goal

@@ -1,11 +1,9 @@
 -- `line::reader::collect` meets its contract.
 -- Assumes nothing.
-use mathlib.Core.Path.{◌≡◌, sym, ◌∙◌}
-use mathlib.Core.Bool.{true}
+use mathlib.Core.Path.{sym, ◌∙◌}
 use native.Mathlib.Omega.{arith}
-use borrow.Author.Rules.{rules}
 use lib.Seq.{length-take-le}
-use Rattle.line.specs.Reader.{valid_reader, collect_outcome}
+use Rattle.line.specs.Reader.{collect_outcome}
 use Rattle.line.proofs.State.{valid-ready}
 use Rattle.line.proofs.Reading.{ahead-most, collecting-refused, collecting-kept, collecting-read}
 use Rattle.line.proofs.reader.collect.Goals as goal

@@ -1,7 +1,6 @@
 -- `line::reader::finish_form` meets its contract.
 -- Assumes nothing.
 use native.Mathlib.Omega.{arith}
-use borrow.Author.Rules.{rules}
 use Rattle.line.specs.Reader.{read_report}
 use Rattle.line.proofs.Judging.{form_fits, finish-bad, finish-short, finish-long, finish-fits}
 use Rattle.line.proofs.reader.finish_form.Goals as goal

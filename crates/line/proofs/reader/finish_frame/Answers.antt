@@ -3,7 +3,6 @@
 use mathlib.Core.Path.{ap, ◌∙◌}
 use mathlib.Core.Option.{none}
 use native.Mathlib.Omega.{arith}
-use borrow.Author.Rules.{rules}
 use Rattle.line.specs.Reader.{read_report, empty, failed, frame_outcome}
 use Rattle.line.proofs.Held.{finish-empty, finish-over, finish-form}
 use Rattle.line.proofs.reader.finish_frame.Goals as goal

@@ -1,7 +1,6 @@
 -- `line::reader::message_data_given` meets its contract.
 -- Assumes nothing.
 use mathlib.Core.Path.{sym, ◌∙◌}
-use borrow.Author.Rules.{rules}
 use borrow.Author.Tests.{lt-ltb, le-ltb}
 use Rattle.line.specs.Reader.{data_report, data_given_promise}
 use Rattle.line.proofs.reader.message_data_given.Goals as goal

@@ -2,7 +2,6 @@
 -- Assumes nothing.
 use mathlib.Core.Path.{sym, ◌∙◌}
 use native.Mathlib.Omega.{arith}
-use borrow.Author.Rules.{rules}
 use Rattle.line.specs.Reader.{read_report}
 use Rattle.line.proofs.State.{valid-ready}
 use Rattle.line.proofs.Reading.{ahead-most, reading-refused, reading-ready, reading-more, reading-stop}

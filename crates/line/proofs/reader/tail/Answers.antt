@@ -3,7 +3,6 @@
 use mathlib.Core.Path.{sym, ◌∙◌}
 use Prim.Native.Nat.{◌≤◌}
 use native.Mathlib.Omega.{arith}
-use borrow.Author.Rules.{rules}
 use Rattle.line.specs.Limits.{longest_form}
 use Rattle.line.specs.ReaderLayout.{received_count}
 use Rattle.line.specs.Reader.{tail_report, tail_promise}

@@ -1,12 +1,10 @@
 -- `nonzero_run` meets its contract. The loop's invariant: k bytes of the run are passed.
 -- Assumes nothing.
-use Prim.Native.Nat.{◌-◌, ◌≤◌}
-use mathlib.Core.Path.{◌≡◌, sym, ◌∙◌}
+use mathlib.Core.Path.{sym, ◌∙◌}
 use borrow.Author.Rules.{rules}
 use native.Mathlib.Omega.{arith}
-use lib.ListN.{length, drop, length-drop}
+use lib.ListN.{drop, length-drop}
 use lib.Seq.{get_or-drop}
-use Rattle.line.specs.Runs.{nonzero, run_length}
 use Rattle.line.proofs.Runs.{reached-none, reached-more, reached-zero, reached-end}
 use Rattle.line.proofs.scan.nonzero_run.Goals as goal
 

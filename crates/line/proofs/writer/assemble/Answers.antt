@@ -1,7 +1,6 @@
 -- `line::writer::assemble` meets its contract.
 -- Assumes nothing.
 use Prim.Native.Nat.{◌<◌}
-use borrow.Author.Rules.{rules}
 use native.Mathlib.Omega.{arith}
 use Rattle.line.proofs.Assemble.{assembled, assembled-length}
 use Rattle.line.proofs.writer.assemble.Goals as goal
