@@ -7,7 +7,7 @@ use Rattle.supervisor.proofs.keys.part.Goals as goal
 
 pub returns-then-most-n : goal.returns-then-most-n
 returns-then-most-n c =
-    rw (lt-ltb _ _ c.if-most-n.true) (refl, refl)
+    rw (lt-ltb _ _ c.if-most-n.true) (record { result_value = refl; ref_ptr_value = refl })
 
 pub returns : goal.returns
 returns c =
