@@ -2,7 +2,6 @@
 -- Assumes nothing.
 use mathlib.Core.Path.{ap, ◌∙◌}
 use native.Mathlib.Omega.{arith}
-use borrow.Author.Rules.{rules}
 use lib.ListN.{length, length-set}
 use Rattle.octets.proofs.Overlay.{length-put}
 use Rattle.supervisor.proofs.AlertLaws.{length-slot, alert-put}

@@ -1,7 +1,6 @@
 -- `supervisor::alerts::post` meets its contract.
 -- Assumes nothing.
 use mathlib.Core.Path.{sym, ◌∙◌}
-use borrow.Author.Rules.{rules}
 use Rattle.supervisor.proofs.ValidLaws.{registers-valid}
 use Rattle.supervisor.proofs.AlertLaws.{post-refused, post-bad, post-long, post-done, post-full}
 use Rattle.supervisor.proofs.alerts.post.Goals as goal

@@ -1,7 +1,6 @@
 -- `supervisor::keys::edition` meets its contract.
 -- Assumes nothing.
 use mathlib.Core.Path.{sym, ◌∙◌}
-use borrow.Author.Rules.{rules}
 use Rattle.supervisor.specs.Calls.{edition_report, edition_promise}
 use Rattle.supervisor.proofs.keys.edition.Goals as goal
 

@@ -1,6 +1,5 @@
 -- `supervisor::keys::edition_at` meets its contract.
 -- Assumes nothing.
-use borrow.Author.Rules.{rules}
 use borrow.Author.Tests.{lt-ltb, le-ltb}
 use Rattle.supervisor.specs.Calls.{edition_report, edition_report_at}
 use Rattle.supervisor.proofs.keys.edition_at.Goals as goal

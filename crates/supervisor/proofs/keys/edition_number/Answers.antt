@@ -1,6 +1,5 @@
 -- `supervisor::keys::edition_number` meets its contract.
 -- Assumes nothing.
-use borrow.Author.Rules.{rules}
 use Rattle.supervisor.specs.Calls.{edition_report}
 use Rattle.supervisor.proofs.keys.edition_number.Goals as goal
 

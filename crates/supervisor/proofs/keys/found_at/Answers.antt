@@ -1,6 +1,5 @@
 -- `supervisor::keys::found_at` meets its contract.
 -- Assumes nothing.
-use borrow.Author.Rules.{rules}
 use borrow.Author.Tests.{lt-ltb, le-ltb}
 use Rattle.supervisor.specs.Calls.{lookup_report, result_at}
 use Rattle.supervisor.proofs.keys.found_at.Goals as goal

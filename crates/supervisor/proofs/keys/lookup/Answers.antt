@@ -1,7 +1,6 @@
 -- `supervisor::keys::lookup` meets its contract.
 -- Assumes nothing.
 use mathlib.Core.Path.{refl, sym, ◌∙◌}
-use borrow.Author.Rules.{rules}
 use Rattle.supervisor.specs.Calls.{lookup_promise, lookup_place}
 use Rattle.supervisor.proofs.KeyLaws.{place-valid}
 use Rattle.supervisor.proofs.keys.lookup.Goals as goal

@@ -1,7 +1,6 @@
 -- `supervisor::keys::lookup_result` meets its contract.
 -- Assumes nothing.
 use mathlib.Core.Path.{sym, ◌∙◌}
-use borrow.Author.Rules.{rules}
 use Rattle.supervisor.specs.Calls.{lookup_report, lookup_result_promise}
 use Rattle.supervisor.proofs.keys.lookup_result.Goals as goal
 

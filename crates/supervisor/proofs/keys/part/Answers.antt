@@ -1,7 +1,6 @@
 -- `supervisor::keys::part` meets its contract.
 -- Assumes nothing.
 use mathlib.Core.Path.{refl}
-use borrow.Author.Rules.{rules}
 use borrow.Author.Tests.{lt-ltb, le-ltb}
 use Rattle.supervisor.proofs.keys.part.Goals as goal
 

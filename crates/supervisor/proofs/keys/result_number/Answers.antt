@@ -1,6 +1,5 @@
 -- `supervisor::keys::result_number` meets its contract.
 -- Assumes nothing.
-use borrow.Author.Rules.{rules}
 use Rattle.supervisor.specs.Calls.{lookup_report}
 use Rattle.supervisor.proofs.keys.result_number.Goals as goal
 

@@ -1,7 +1,6 @@
 -- `supervisor::keys::stores_are_valid` meets its contract.
 -- Assumes nothing.
 use mathlib.Core.Path.{sym, ◌∙◌}
-use borrow.Author.Rules.{rules}
 use Rattle.supervisor.proofs.keys.stores_are_valid.Goals as goal
 
 pub returns-then-not-factory_is_valid : goal.returns-then-not-factory_is_valid

@@ -1,7 +1,6 @@
 -- `supervisor::keys::value_at` meets its contract.
 -- Assumes nothing.
 use mathlib.Core.Path.{refl}
-use borrow.Author.Rules.{rules}
 use borrow.Author.Tests.{lt-ltb, le-ltb}
 use Rattle.supervisor.specs.Calls.{value_in, part_place_at}
 use Rattle.supervisor.proofs.keys.value_at.Goals as goal

@@ -1,7 +1,6 @@
 -- `supervisor::options::set_options` meets its contract.
 -- Assumes nothing.
 use mathlib.Core.Path.{sym, ◌∙◌}
-use borrow.Author.Rules.{rules}
 use Rattle.supervisor.proofs.OptionLaws.{options-refused, options-bad, options-done}
 use Rattle.supervisor.proofs.options.set_options.Goals as goal
 

@@ -1,7 +1,6 @@
 -- `supervisor::registers::flags` meets its contract.
 -- Assumes nothing.
 use mathlib.Core.Path.{sym, ◌∙◌}
-use borrow.Author.Rules.{rules}
 use Rattle.supervisor.specs.Calls.{flags_report, flags_promise}
 use Rattle.supervisor.proofs.registers.flags.Goals as goal
 

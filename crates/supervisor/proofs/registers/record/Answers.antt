@@ -1,7 +1,6 @@
 -- `supervisor::registers::record` meets its contract.
 -- Assumes nothing.
 use mathlib.Core.Path.{sym, ap, ◌∙◌}
-use borrow.Author.Rules.{rules}
 use borrow.Author.Tests.{ne_eqb}
 use Rattle.supervisor.specs.Calls.{is, record_report, record_at, record_promise}
 use Rattle.supervisor.proofs.ReadingLaws.{record-found}

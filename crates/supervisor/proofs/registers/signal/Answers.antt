@@ -1,7 +1,6 @@
 -- `supervisor::registers::signal` meets its contract.
 -- Assumes nothing.
 use mathlib.Core.Path.{sym, ◌∙◌}
-use borrow.Author.Rules.{rules}
 use borrow.Author.Tests.{eq-eqb, ne_eqb}
 use Rattle.supervisor.specs.Calls.{signal_report, signal_promise}
 use Rattle.supervisor.proofs.registers.signal.Goals as goal

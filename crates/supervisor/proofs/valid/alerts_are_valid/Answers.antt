@@ -1,12 +1,9 @@
 -- `valid::alerts_are_valid` meets its contract. The loop's invariant: it is at alert i, and those before it are valid.
 -- Assumes nothing.
-use mathlib.Core.Path.{◌≡◌, sym, ◌∙◌}
-use mathlib.Core.Bool.{true, false≢true}
-use Prim.Native.Nat.{◌-◌, ◌≤◌}
+use mathlib.Core.Path.{sym, ◌∙◌}
+use mathlib.Core.Bool.{false≢true}
 use native.Mathlib.Omega.{arith}
 use borrow.Author.Rules.{rules}
-use Rattle.supervisor.specs.Layout.{alert_offset}
-use Rattle.supervisor.specs.Valid.{valid_alerts}
 use Rattle.supervisor.proofs.ValidLaws.{untrue, all_none, all_more, all_done, all-each, text-valid, valid-text}
 use Rattle.supervisor.proofs.ValidLaws.{alert-valid, valid-alert}
 use Rattle.supervisor.proofs.valid.alerts_are_valid.Goals as goal

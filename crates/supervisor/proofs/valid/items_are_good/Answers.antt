@@ -1,12 +1,9 @@
 -- `valid::items_are_good` meets its contract. The loop's invariant: it is at item i, and those before it are good.
 -- Assumes nothing.
-use mathlib.Core.Path.{◌≡◌, sym, ◌∙◌}
-use mathlib.Core.Bool.{true, false≢true}
-use Prim.Native.Nat.{◌-◌, ◌≤◌}
+use mathlib.Core.Path.{sym, ◌∙◌}
+use mathlib.Core.Bool.{false≢true}
 use native.Mathlib.Omega.{arith}
 use borrow.Author.Rules.{rules}
-use Rattle.supervisor.specs.Layout.{item_offset}
-use Rattle.supervisor.specs.Valid.{good_items}
 use Rattle.supervisor.proofs.ValidLaws.{untrue, all_none, all_more, all_done, all-each, item-good, good-item}
 use Rattle.supervisor.proofs.valid.items_are_good.Goals as goal
 

@@ -25,8 +25,8 @@ returns c =
     (λ t. good_start_lem _ (record {
       bsu =
           elim c.if-bsu-ne-BSU_A.branch [
-            then-bsu-ne-BSU_A+else-bsu-ne-BSU_B w ↦ inr (omega arith)
-          | else-bsu-ne-BSU_A w ↦ inl (omega arith)
+            | then-bsu-ne-BSU_A+else-bsu-ne-BSU_B w ↦ inr (omega arith)
+            | else-bsu-ne-BSU_A w ↦ inl (omega arith)
           ];
       image = search rules;
       count = search rules;

@@ -1,12 +1,11 @@
 -- `valid::values_are_valid` meets its contract. The loop's invariant: the settings before i are valid.
 -- Assumes nothing.
-use mathlib.Core.Path.{◌≡◌, sym, ◌∙◌}
-use mathlib.Core.Bool.{true, false≢true}
-use Prim.Native.Nat.{◌+◌, ◌-◌, ◌≤◌}
+use mathlib.Core.Path.{sym, ◌∙◌}
+use mathlib.Core.Bool.{false≢true}
+use Prim.Native.Nat.{◌+◌}
 use native.Mathlib.Omega.{arith}
 use borrow.Author.Rules.{rules}
-use Rattle.supervisor.specs.Limits.{first_setting, setting_count}
-use Rattle.supervisor.specs.Valid.{valid_values}
+use Rattle.supervisor.specs.Limits.{first_setting}
 use Rattle.supervisor.proofs.OffsetLaws.{offset-within}
 use Rattle.supervisor.proofs.ValidLaws.{untrue, all_none, all_more, all_done, all-each}
 use Rattle.supervisor.proofs.valid.values_are_valid.Goals as goal
