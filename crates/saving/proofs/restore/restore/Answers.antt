@@ -20,17 +20,17 @@ pub put_records-requires : goal.put_records-requires
 unfolding found_of
 put_records-requires c =
     let l = (settings-valid _ (sym c.settings_are_valid.ensures ∙ c.if-not-settings_are_valid.false)).long in
-    record { settings_length_in_bounds = search rules; image_value = sym c.check-found.ensures ∙ ap found_of c.enum_told-1.given.1 }
+    record { settings_length_in_bounds = search rules; image_value = sym c.check-found.ensures ∙ ap found_of c.in-Good.is }
 
 pub returns-in-Good : goal.returns-in-Good
 unfolding restore_report restore_promise found_of
 returns-in-Good c =
     rw (sym c.settings_are_valid.ensures ∙ c.if-not-settings_are_valid.false)
-    (restored-good _ _ (sym c.check-found.ensures ∙ ap found_of c.enum_told-1.given.1) c.clear.ensures
+    (restored-good _ _ (sym c.check-found.ensures ∙ ap found_of c.in-Good.is) c.clear.ensures
     c.put_records.ensures)
 
 pub returns-in-Bad : goal.returns-in-Bad
 unfolding restore_report restore_promise found_of
 returns-in-Bad c =
     rw (sym c.settings_are_valid.ensures ∙ c.if-not-settings_are_valid.false)
-    (restored-not _ _ (sym (ap found_of c.found-1.given.1) ∙ c.check-found.ensures))
+    (restored-not _ _ (sym (ap found_of c.in-Bad.is) ∙ c.check-found.ensures))
