@@ -1,6 +1,5 @@
 -- `saving::image::checksum_of` meets its contract.
 -- Assumes nothing.
-use borrow.Author.Rules.{rules}
 use Rattle.saving.proofs.image.checksum_of.Goals as goal
 
 pub returns : goal.returns

@@ -3,7 +3,6 @@
 use mathlib.Core.Path.{ap, ◌∙◌}
 use mathlib.Core.Bool.{not}
 use native.Mathlib.Omega.{arith}
-use borrow.Author.Rules.{rules}
 use Rattle.saving.specs.Calls.{image_step_of}
 use Rattle.saving.proofs.StepLaws.{mark-cut, bytes-behind, end-good, mark-wrong, key-cut, key-wrong, key-good}
 use Rattle.saving.proofs.restore.pass.Goals as goal

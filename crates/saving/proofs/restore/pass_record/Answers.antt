@@ -1,7 +1,6 @@
 -- `saving::restore::pass_record` meets its contract.
 -- Assumes nothing.
 use native.Mathlib.Omega.{arith}
-use borrow.Author.Rules.{rules}
 use Rattle.saving.specs.Calls.{image_step_of}
 use Rattle.saving.proofs.StepLaws.{head-cut, value-long, value-cut, sum-wrong, record-good}
 use Rattle.saving.proofs.restore.pass_record.Goals as goal

@@ -1,13 +1,9 @@
 -- `saving::restore::put_records` meets its contract. The loop's invariant: what is left to put makes the settings whole.
 -- Assumes nothing.
-use mathlib.Core.Path.{◌≡◌, sym, ◌∙◌}
-use Prim.Native.Nat.{◌-◌}
+use mathlib.Core.Path.{sym, ◌∙◌}
 use native.Mathlib.Omega.{arith}
 use borrow.Author.Rules.{rules}
-use lib.ListN.{length}
-use Rattle.saving.specs.Saving.{read_image}
-use Rattle.saving.specs.Calls.{entries_in, put_entries}
-use Rattle.saving.proofs.RestoreLaws.{Left, all_left, whole_here, on-left, none_left}
+use Rattle.saving.proofs.RestoreLaws.{all_left, whole_here, on-left, none_left}
 use Rattle.saving.proofs.restore.put_records.Goals as goal
 
 pub loop-settings-init : goal.loop-settings-init

@@ -2,14 +2,10 @@
 -- Assumes nothing.
 use mathlib.Core.Path.{◌≡◌}
 use Prim.Native.Nat.{◌-◌}
-use native.Mathlib.Omega.{arith}
-use borrow.Author.Rules.{rules}
 use lib.ListN.{length}
-use Rattle.supervisor.proofs.Cases.{refused}
-use Rattle.supervisor.proofs.ValidLaws.{passed}
 use Rattle.saving.specs.Saving.{read_image}
 use Rattle.saving.specs.Calls.{entries_in, put_entries}
-use Rattle.saving.proofs.RestoreLaws.{Left, all_left, whole_here, on-left, none_left}
+use Rattle.saving.proofs.RestoreLaws.{Left}
 use Rattle.saving.proofs.restore.put_records.Given as goal
 
 abbrev pub invariant-loop-settings : goal.invariant-loop-settings

@@ -1,8 +1,6 @@
 -- `saving::restore::set_head` meets its contract.
 -- Assumes nothing.
-use mathlib.Core.Path.{◌∙◌}
 use borrow.Author.Rules.{rules}
-use lib.ListN.{length-set}
 use Rattle.saving.proofs.StoreLaws.{head-put}
 use Rattle.saving.proofs.restore.set_head.Goals as goal
 

@@ -1,9 +1,6 @@
 -- `saving::save::write_body` meets its contract.
 -- Assumes nothing.
-use mathlib.Core.Path.{◌∙◌}
 use native.Mathlib.Omega.{arith}
-use borrow.Author.Rules.{rules}
-use lib.ListN.{length-set}
 use Rattle.saving.proofs.StoreLaws.{body-put}
 use Rattle.saving.proofs.save.write_body.Goals as goal
 

@@ -1,14 +1,9 @@
 -- `saving::save::write_image` meets its contract. The loop's invariant: the records left, put at the offset, make the image whole.
 -- Assumes nothing.
-use mathlib.Core.Path.{◌≡◌, refl, ◌∙◌}
-use Prim.Native.Nat.{◌+◌, ◌-◌, ◌≤◌}
+use mathlib.Core.Path.{refl, ◌∙◌}
 use native.Mathlib.Omega.{arith}
 use borrow.Author.Rules.{rules}
-use lib.ListN.{length}
-use Rattle.octets.specs.Bytes.{overlay}
-use Rattle.supervisor.specs.Limits.{first_setting}
-use Rattle.saving.specs.Saving.{saved_count}
-use Rattle.saving.specs.Calls.{saved_records_from, image_bytes}
+use Rattle.saving.specs.Calls.{image_bytes}
 use Rattle.saving.proofs.RestoreLaws.{saved-key}
 use Rattle.saving.proofs.ImageLaws.{length-on, records-put, end-put}
 use Rattle.saving.proofs.save.write_image.Goals as goal
