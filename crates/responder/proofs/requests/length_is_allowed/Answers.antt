@@ -64,4 +64,4 @@ returns-in-16 c = rw c.in-16.is
 
 pub returns-in_default : goal.returns-in_default
 unfolding length_allowed command_number
-returns-in_default c = let h = c.in_default.in_default-own in rw (unlisted c.args.command (search rules))
+returns-in_default c = rw (unlisted c.args.command (search rules))
