@@ -1,9 +1,6 @@
 -- `line::sums::checksum_of_first` meets its contract.
 -- Assumes nothing.
-use mathlib.Core.Path.{sym}
-use borrow.Author.Rules.{rules}
-use native.Mathlib.Omega.{arith}
-use lib.Seq.{take_all, length-take-le}
+use lib.Seq.{take_all}
 use Rattle.line.proofs.sums.checksum_of_first.Goals as goal
 
 pub returns-else-n-s : goal.returns-else-n-s

@@ -5,4 +5,4 @@ use Rattle.saving.proofs.image.checksum_of.Goals as goal
 
 pub returns : goal.returns
 returns c =
-    rw (c.checksum.ensures, c.part.ensures.0)
+    rw (c.checksum.ensures, c.part.ensures.result_value)

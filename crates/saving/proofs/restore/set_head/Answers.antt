@@ -6,10 +6,6 @@ use lib.ListN.{length-set}
 use Rattle.saving.proofs.StoreLaws.{head-put}
 use Rattle.saving.proofs.restore.set_head.Goals as goal
 
-pub shape_of-settings : goal.shape_of-settings
-shape_of-settings c =
-    c.settings-2-1.given ∙ c.settings-1.given ∙ simp length-set
-
 pub returns : goal.returns
 returns c =
     rw (c.write_u16.ensures, c.write_u32.ensures) (head-put _ _ _ _ _ (search rules) (search rules))

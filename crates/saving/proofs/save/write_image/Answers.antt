@@ -21,7 +21,11 @@ loop-i-init c =
 pub write_record-at-requires : goal.write_record-at-requires
 write_record-at-requires c =
     let l = length-on c.args.settings.now c.loop-i.i c.loop-i-test.true in
-    (search rules, (saved-key _ c.loop-i-test.true, omega (arith, l, c.loop-i.invariant.2)))
+    record {
+      settings_value = c.requires.settings_value;
+      settings_key = saved-key _ c.loop-i-test.true;
+      key_in_bounds = omega (arith, l, c.loop-i.invariant.2);
+    }
 
 pub loop-i-preserved : goal.loop-i-preserved
 loop-i-preserved c =
@@ -30,13 +34,12 @@ loop-i-preserved c =
     let l = length-on s c.loop-i.i c.loop-i-test.true in (
       search rules,
       search rules,
-      omega (arith, l, c.loop-i.invariant.2, put.ensures.0),
-      records-put s c.loop-i.i c.loop-i-test.true _ _ (omega arith) put.ensures.0 put.ensures.1 ∙ c.loop-i.invariant.3,
+      omega (arith, l, c.loop-i.invariant.2, put.ensures.value),
+      records-put s c.loop-i.i c.loop-i-test.true _ _ (omega arith) put.ensures.value put.ensures.out_after ∙ c.loop-i.invariant.3,
     )
-    -- TODO: 10 answers for 9 goals; new goals: ['loop-i-init', 'overflow_add-i', 'write_record-at-requires', 'overflow_add-i-in-loop-i', 'loop-i-smaller', 'loop-i-preserved', 'copy-requires', 'shape_of-out', 'returns']
-    -- TODO returns: no step args at After-shared_slice_known: let at_copy = c.before.before in
-    let over = at_copy.before.before.before in
-    let looped = over.before in
-    at_copy.copy.ensures
-    ∙ end-put (start looped).args.settings.now _ looped.loop.i _ over.loop-test.false looped.loop.invariant.2
-    ∙ looped.loop.invariant.3
+
+pub returns : goal.returns
+returns c =
+    c.copy.ensures
+    ∙ end-put c.args.settings.now _ c.loop-i.i _ c.loop-i-test.false c.loop-i.invariant.2
+    ∙ c.loop-i.invariant.3

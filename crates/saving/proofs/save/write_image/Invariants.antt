@@ -13,13 +13,11 @@ use Rattle.saving.proofs.RestoreLaws.{saved-key}
 use Rattle.saving.proofs.ImageLaws.{length-on, records-put, end-put}
 use Rattle.saving.proofs.save.write_image.Given as goal
 
--- TODO: 8 variables for 7: ['settings', 'out₀', 'at₀', 'i₀', 't5', 'out', 'at', 'i'] ['l.settings', 'l.initial.out', 'l.initial.at', 'l.initial.i', 'l.out', 'l.at', 'l.i']
 abbrev pub invariant-loop-i : goal.invariant-loop-i
 invariant-loop-i l =
-    (i ≤ saved_count) × (length l.at ≡ length l.initial.out)
-    × (l.i + length (saved_records_from l.settings (saved_count - i) (first_setting + i)) ≤ length l.at)
-    × (overlay l.i (saved_records_from l.settings (saved_count - i) (first_setting + i)) l.at ≡ overlay 0 (image_bytes l.settings) l.initial.out)
+    (l.i ≤ saved_count) × (length l.out ≡ length l.initial.out)
+    × (l.at + length (saved_records_from l.settings (saved_count - l.i) (first_setting + l.i)) ≤ length l.out)
+    × (overlay l.at (saved_records_from l.settings (saved_count - l.i) (first_setting + l.i)) l.out ≡ overlay 0 (image_bytes l.settings) l.initial.out)
 
--- TODO: 8 variables for 7: ['settings', 'out₀', 'at₀', 'i₀', 't5', 'out', 'at', 'i'] ['l.settings', 'l.initial.out', 'l.initial.at', 'l.initial.i', 'l.out', 'l.at', 'l.i']
 abbrev pub decreases-loop-i : goal.decreases-loop-i
-decreases-loop-i l = saved_count - i
+decreases-loop-i l = saved_count - l.i
