@@ -7,11 +7,11 @@ use Rattle.requester.proofs.progress.set_progress.Goals as goal
 
 pub bounds-requester-9 : goal.bounds-requester-9
 bounds-requester-9 c =
-    simp length-set (omega (arith, c.write_u64.ensures))
+    simp length-set (omega arith)
 
 pub bounds-requester-10 : goal.bounds-requester-10
 bounds-requester-10 c =
-    simp length-set (omega (arith, c.write_u64.ensures))
+    simp length-set (omega arith)
 
 pub returns : goal.returns
 returns c =

@@ -15,5 +15,5 @@ pub returns : goal.returns
 unfolding with_request
 returns c =
     rw (passed _ _ c.stays_out.ensures c.if-not-stays_out.false, ← c.set_progress-2.ensures)
-    (request-kept _ (omega (arith, c.set_progress-2.ensures, c.requires.requester_length_in_bounds)) _ _ c.requires.data_len_bound
+    (request-kept _ (omega arith) _ _ c.requires.data_len_bound
     c.write_u16.ensures c.copy.ensures)
