@@ -36,12 +36,10 @@ pub valid_step-done-requires : goal.valid_step-done-requires
 valid_step-done-requires c = c.loop-at.invariant.valid
 
 pub overflow_add-at : goal.overflow_add-at
-overflow_add-at c =
-    let u = valid-step-used c.loop-at.invariant c.loop-at-test.true c.valid_step-done.ensures.registers_after in omega arith
+overflow_add-at c = let u = valid-step-used c.loop-at.invariant c.loop-at-test.true c.valid_step-done.ensures.registers_after in omega arith
 
 pub loop-at-smaller : goal.loop-at-smaller
-loop-at-smaller c =
-    let u = valid-step-used c.loop-at.invariant c.loop-at-test.true c.valid_step-done.ensures.registers_after in omega arith
+loop-at-smaller c = let u = valid-step-used c.loop-at.invariant c.loop-at-test.true c.valid_step-done.ensures.registers_after in omega arith
 
 pub loop-at-preserved : goal.loop-at-preserved
 loop-at-preserved c =
