@@ -323,28 +323,15 @@ module _ (image piece : List ℕ) (p : Parts) (v : Receive.valid_parts p ≡ tru
 
 -- ---- the loop over a piece
 
--- The parts as they are at an offset of the piece are valid, and what is left of it is fed to them.
--- Each part has the length that it came with.
+-- the parts as they are at an offset of the piece are valid, and what is left of it is fed to them
 pub record Held (image piece : List ℕ) (p₀ p : Parts) (at : ℕ) : Type 0 where
   pub within : at ≤ length piece
   pub valid : Receive.valid_parts p ≡ true
   pub same : Receive.receive_promise image p₀ piece ≡ record { refusal = none; parts = Receive.feed_bytes image p (drop at piece) }
-  pub reader_kept : length p.reader ≡ length p₀.reader
-  pub outbox_kept : length p.outbox ≡ length p₀.outbox
-  pub settings_kept : length p.settings ≡ length p₀.settings
-  pub registers_kept : length p.registers ≡ length p₀.registers
 
 pub begun : (image piece : List ℕ) (p : Parts) → Receive.valid_parts p ≡ true → Held image piece p p 0
 unfolding Receive.receive_promise
-begun image piece p v = record {
-  within = zero-le;
-  valid = v;
-  same = rw v;
-  reader_kept = refl;
-  outbox_kept = refl;
-  settings_kept = refl;
-  registers_kept = refl;
-}
+begun image piece p v = record { within = zero-le; valid = v; same = rw v }
 
 pub over : {image piece : List ℕ} {p₀ p : Parts} {at : ℕ} → Held image piece p₀ p at → length piece ≤ at
     → Receive.receive_outcome received.Done p ≡ Receive.receive_promise image p₀ piece
@@ -390,19 +377,13 @@ module _ {image piece : List ℕ} {p₀ p : Parts} {at : ℕ} {o : Receive.StepO
       let i = w.reads_one (omega arith) in
       (omega arith, omega arith)
 
-  pub went : Receive.valid_parts o.parts ≡ true → length o.parts.reader ≡ length p.reader
-      → length o.parts.outbox ≡ length p.outbox → length o.parts.settings ≡ length p.settings
-      → length o.parts.registers ≡ length p.registers → Held image piece p₀ o.parts (at + o.used)
+  pub went : Receive.valid_parts o.parts ≡ true → Held image piece p₀ o.parts (at + o.used)
   unfolding Receive.valid_step
-  went v a b c d =
+  went v =
       let u : o.used ≡ (LineReader.read_piece p.reader left).used = ap (λ (x : Receive.StepOutcome). x.used) by_left in
       let q = ap (λ (x : Receive.StepOutcome). x.parts) by_left in
       record {
         within = valid-step-used.1;
         valid = v;
         same = h.same ∙ rw (iteration-rest image left p, ← u, ← q, drop-drop);
-        reader_kept = a ∙ h.reader_kept;
-        outbox_kept = b ∙ h.outbox_kept;
-        settings_kept = c ∙ h.settings_kept;
-        registers_kept = d ∙ h.registers_kept;
       }

@@ -1,7 +1,6 @@
 -- `responder::alert::alert` meets its contract.
 -- Assumes nothing.
 use native.Mathlib.Omega.{arith}
-use borrow.Author.Rules.{rules}
 use Rattle.supervisor.proofs.ValidLaws.{registers-valid}
 use Rattle.responder.proofs.TakenLaws.{settled, alert-sent}
 use Rattle.responder.proofs.alert.alert.Goals as goal

@@ -1,7 +1,6 @@
 -- `responder::alert::retain` meets its contract.
 -- Assumes nothing.
 use mathlib.Core.Path.{refl, sym, ◌∙◌}
-use borrow.Author.Rules.{rules}
 use Rattle.responder.proofs.TakenLaws.{none_retained, oldest-retained}
 use Rattle.responder.proofs.alert.retain.Goals as goal
 

@@ -1,7 +1,6 @@
 -- `responder::alert::take_alert` meets its contract.
 -- Assumes nothing.
 use native.Mathlib.Omega.{arith}
-use borrow.Author.Rules.{rules}
 use Rattle.supervisor.proofs.ValidLaws.{registers-valid}
 use Rattle.responder.proofs.TakenLaws.{alert-taken}
 use Rattle.responder.proofs.alert.take_alert.Goals as goal

@@ -2,13 +2,11 @@
 -- Assumes nothing.
 use native.Mathlib.Omega.{arith}
 use lib.ListN.{drop, length-take}
-use borrow.Author.Rules.{rules}
 use Rattle.responder.proofs.ReceiveLaws.{block_same, block-other}
 use Rattle.responder.proofs.answers.send_block.Goals as goal
 
 pub returns-then-not-same : goal.returns-then-not-same
-returns-then-not-same c =
-    rw (← block-other _ _ _ c.requires.factory_value _ c.same.ensures c.if-not-same.true) c.send_part.ensures
+returns-then-not-same c = rw (← block-other _ _ _ c.requires.factory_value _ c.same.ensures c.if-not-same.true) c.send_part.ensures
 
 pub send-requires : goal.send-requires
 send-requires c =

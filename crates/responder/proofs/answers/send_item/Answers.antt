@@ -7,8 +7,7 @@ use Rattle.responder.proofs.ReceiveLaws.{ItemHeld, item-held, item-there, item-n
 use Rattle.responder.proofs.answers.send_item.Goals as goal
 
 pub returns-then-count-index : goal.returns-then-count-index
-returns-then-count-index c =
-    rw (← item-none _ c.args.index (rw c.read_u32-count.ensures at c.if-count-index.true)) c.send.ensures
+returns-then-count-index c = rw (← item-none _ c.args.index (rw c.read_u32-count.ensures at c.if-count-index.true)) c.send.ensures
 
 pub item_data_length-n-requires : goal.item_data_length-n-requires
 item_data_length-n-requires c =

@@ -3,7 +3,6 @@
 use Prim.Native.Nat.{◌≤◌, ◌-◌}
 use native.Mathlib.Omega.{arith}
 use lib.ListN.{length, length-take}
-use borrow.Author.Rules.{rules}
 use Rattle.responder.specs.Receive.{value_bytes}
 use Rattle.supervisor.proofs.KeyLaws.{result-valid, edition-valid, value-valid, value-short}
 use Rattle.responder.proofs.ReceiveLaws.{value-head}

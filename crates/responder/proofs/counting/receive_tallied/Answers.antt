@@ -30,7 +30,7 @@ loop-at-preserved c =
     let inv = c.loop-at.invariant in
     let l = c.loop-at-test.true in
     counted-on inv l stepped.registers_after c.bumped-tally.ensures
-    (went inv.held l stepped.registers_after stepped.registers_after_2 (search rules) (search rules) (search rules) (search rules))
+    (went inv.held l stepped.registers_after stepped.registers_after_2)
 
 pub returns : goal.returns
 returns c = counted-all c.loop-at.invariant c.loop-at-test.false

@@ -1,8 +1,7 @@
 -- `responder::receive::answer_frame` meets its contract: one law for each kind of answer.
 -- Assumes nothing.
-use mathlib.Core.Path.{◌≡◌, refl, ap}
+use mathlib.Core.Path.{refl, ap}
 use mathlib.Core.Option.{none, some}
-use borrow.Author.Rules.{rules}
 use Rattle.line.specs.Reader.{read_report}
 use Rattle.line.proofs.Received.{data-short}
 use Rattle.counters.specs.Ended.{step_report, served_report}

@@ -1,7 +1,6 @@
 -- `responder::receive::are_valid` meets its contract: the tests in the definition's order.
 -- Assumes nothing.
 use mathlib.Core.Path.{◌≡◌, sym, ◌∙◌}
-use borrow.Author.Rules.{rules}
 use Rattle.line.proofs.Rest.{rest-mid}
 use Rattle.supervisor.specs.Valid.{valid_settings}
 use Rattle.responder.specs.Receive.{valid_inner, valid_parts}

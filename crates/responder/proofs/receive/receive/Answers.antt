@@ -2,7 +2,6 @@
 -- Assumes nothing.
 use mathlib.Core.Path.{◌≡◌, sym, ◌∙◌}
 use native.Mathlib.Omega.{arith}
-use borrow.Author.Rules.{rules}
 use Rattle.line.proofs.Rest.{rest-mid}
 use Rattle.supervisor.specs.Calls.{parts}
 use Rattle.responder.specs.Receive.{valid_parts, receive_report, receive_promise}
@@ -36,18 +35,15 @@ pub valid_step-done-requires : goal.valid_step-done-requires
 valid_step-done-requires c = c.loop-at.invariant.valid
 
 pub overflow_add-at : goal.overflow_add-at
-overflow_add-at c =
-    let u = valid-step-used c.loop-at.invariant c.loop-at-test.true c.valid_step-done.ensures.registers_after in omega arith
+overflow_add-at c = let u = valid-step-used c.loop-at.invariant c.loop-at-test.true c.valid_step-done.ensures.registers_after in omega arith
 
 pub loop-at-smaller : goal.loop-at-smaller
-loop-at-smaller c =
-    let u = valid-step-used c.loop-at.invariant c.loop-at-test.true c.valid_step-done.ensures.registers_after in omega arith
+loop-at-smaller c = let u = valid-step-used c.loop-at.invariant c.loop-at-test.true c.valid_step-done.ensures.registers_after in omega arith
 
 pub loop-at-preserved : goal.loop-at-preserved
 loop-at-preserved c =
     let stepped = c.valid_step-done.ensures in
     went c.loop-at.invariant c.loop-at-test.true stepped.registers_after stepped.registers_after_2
-    (search rules) (search rules) (search rules) (search rules)
 
 pub returns : goal.returns
 returns c = over c.loop-at.invariant c.loop-at-test.false

@@ -1,7 +1,6 @@
 -- `responder::receive::step` meets its contract.
 -- Assumes nothing.
 use mathlib.Core.Path.{sym, ◌∙◌}
-use borrow.Author.Rules.{rules}
 use Rattle.counters.specs.Ended.{step_report, served_report}
 use Rattle.responder.specs.Receive.{step_promise}
 use Rattle.responder.proofs.receive.step.Goals as goal

@@ -1,6 +1,5 @@
 -- `responder::receive::valid_step` meets its contract.
 -- Assumes nothing.
-use borrow.Author.Rules.{rules}
 use Rattle.line.proofs.Rest.{rest-mid}
 use Rattle.supervisor.specs.Calls.{parts}
 use Rattle.supervisor.proofs.ValidLaws.{outbox-valid}

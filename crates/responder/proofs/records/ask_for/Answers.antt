@@ -3,7 +3,6 @@
 use mathlib.Core.Path.{◌∙◌}
 use native.Mathlib.Omega.{arith}
 use lib.ListN.{set, length-set}
-use borrow.Author.Rules.{rules}
 use Rattle.octets.proofs.Overlay.{overlay-one}
 use Rattle.supervisor.specs.Layout.{retained_offset}
 use Rattle.responder.specs.Receive.{asked_for}

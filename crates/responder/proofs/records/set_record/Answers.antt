@@ -1,7 +1,6 @@
 -- `responder::records::set_record` meets its contract.
 -- Assumes nothing.
 use mathlib.Core.Path.{refl}
-use borrow.Author.Rules.{rules}
 use Rattle.responder.proofs.RecordLaws.{record-put}
 use Rattle.responder.proofs.records.set_record.Goals as goal
 

@@ -1,6 +1,5 @@
 -- `responder::records::start_acknowledged` meets its contract.
 -- Assumes nothing.
-use borrow.Author.Rules.{rules}
 use native.Mathlib.Omega.{arith}
 use Rattle.supervisor.specs.Layout.{status_offset}
 use Rattle.responder.proofs.RecordLaws.{number-stored}

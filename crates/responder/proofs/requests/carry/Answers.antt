@@ -1,17 +1,13 @@
 -- `responder::requests::carry` meets its contract: each command's arm does what the definition does for it.
 -- Assumes nothing.
-use mathlib.Core.Path.{◌≡◌, refl, ap}
-use mathlib.Core.Option.{Option, none, some}
-use mathlib.Core.List.{List}
-use Prim.Native.Nat.{ℕ, ◌≤◌, ◌<◌}
+use mathlib.Core.Path.{refl, ap}
+use mathlib.Core.Option.{none, some}
 use native.Mathlib.Omega.{arith}
-use lib.ListN.{length}
 use borrow.Author.Rules.{rules}
 use borrow.Author.Tests.{eqb-false}
-use Rattle.supervisor.specs.Layout.{factory-length, registers_length}
 use Rattle.supervisor.proofs.ValidLaws.{factory-valid, registers-valid}
-use Rattle.responder.specs.Commands.{Command, command_number, command_of_number}
-use Rattle.responder.specs.Receive.{AlertParts, Inner, inner, command_leaves}
+use Rattle.responder.specs.Commands.{Command, command_number}
+use Rattle.responder.specs.Receive.{AlertParts, inner, command_leaves}
 use Rattle.responder.proofs.CommandLaws.{unlisted, of_number}
 use Rattle.responder.proofs.ReceiveLaws.{boot-failure-long, panic-long}
 use Rattle.responder.proofs.KeptLaws.{inner-valid}

@@ -1,8 +1,7 @@
 -- `responder::requests::request` meets its contract: the tests in their order, each with its failure.
 -- Assumes nothing.
-use mathlib.Core.Path.{◌≡◌, sym, ◌∙◌}
+use mathlib.Core.Path.{sym, ◌∙◌}
 use mathlib.Core.Option.{none, some}
-use borrow.Author.Rules.{rules}
 use Rattle.line.specs.Numbers.{first_version}
 use Rattle.responder.proofs.StepLaws.{other-version, top-bit-set, command-unknown, length-wrong, passed-all, judged-failure}
 use Rattle.responder.proofs.requests.request.Goals as goal

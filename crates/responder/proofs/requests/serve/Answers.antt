@@ -1,7 +1,6 @@
 -- `responder::requests::serve` meets its contract: a key set, or what any other command does.
 -- Assumes nothing.
 use native.Mathlib.Omega.{arith}
-use borrow.Author.Rules.{rules}
 use borrow.Author.Tests.{ne_eqb}
 use Rattle.supervisor.proofs.ValidLaws.{settings-valid}
 use Rattle.responder.proofs.ReceiveLaws.{key-set-long}

@@ -1,7 +1,6 @@
 -- `responder::sending::fail` meets its contract.
 -- Assumes nothing.
 use mathlib.Core.Path.{refl}
-use borrow.Author.Rules.{rules}
 use Rattle.counters.specs.Ended.{step_report, served_report}
 use Rattle.responder.proofs.sending.fail.Goals as goal
 

@@ -1,7 +1,6 @@
 -- `responder::sending::send` meets its contract.
 -- Assumes nothing.
 use mathlib.Core.List.{◌++◌}
-use borrow.Author.Rules.{rules}
 use Rattle.responder.specs.Receive.{reply_bytes}
 use Rattle.responder.proofs.SendingLaws.{sent}
 use Rattle.responder.proofs.sending.send.Goals as goal

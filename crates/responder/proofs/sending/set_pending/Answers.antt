@@ -1,6 +1,5 @@
 -- `responder::sending::set_pending` meets its contract.
 -- Assumes nothing.
-use borrow.Author.Rules.{rules}
 use Rattle.responder.proofs.SendingLaws.{pending-set}
 use Rattle.responder.proofs.sending.set_pending.Goals as goal
 

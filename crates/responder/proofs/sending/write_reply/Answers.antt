@@ -1,7 +1,6 @@
 -- `responder::sending::write_reply` meets its contract.
 -- Assumes nothing.
 use mathlib.Core.Path.{refl}
-use borrow.Author.Rules.{rules}
 use Rattle.line.specs.Writer.{write_report}
 use Rattle.line.proofs.Rest.{rest-mid}
 use Rattle.responder.proofs.SendingLaws.{reply-written, reply-refused}

@@ -1,6 +1,5 @@
 -- `responder::settings::store_at` meets its contract.
 -- Assumes nothing.
-use borrow.Author.Rules.{rules}
 use Rattle.responder.proofs.RecordLaws.{value-short, value-long, edition-last, value-put}
 use Rattle.responder.proofs.settings.store_at.Goals as goal
 

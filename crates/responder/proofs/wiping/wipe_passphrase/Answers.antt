@@ -1,6 +1,5 @@
 -- `responder::wiping::wipe_passphrase` meets its contract.
 -- Assumes nothing.
-use borrow.Author.Rules.{rules}
 use Rattle.responder.proofs.VerdictLaws.{other-command, passphrase-wiped, other_key}
 use Rattle.responder.proofs.wiping.wipe_passphrase.Goals as goal
 
