@@ -35,5 +35,3 @@ unfolding plain_verdict word decimal digits_within
 returns-in-BadMagic c =
     let wrote = c.put-in-BadMagic.ensures in
     rw c.enum_told-in-BadMagic-1.given.1 (wrote, omega (arith, wrote.ends))
-
--- TODO: 25 answers for 20 goals; new goals: ['enum_told-1', 'put-requires', 'enum_told-in-BadForm', 'put-requires-in-BadForm', 'enum_told-in-BadLength', 'put-requires-in-BadLength', 'enum_told-in-BadChecksum', 'put-requires-in-BadChecksum', 'enum_told-in-BadMagic', 'put-requires-in-BadMagic', 'shape_of-text-in-Message', 'returns-in-Message', 'shape_of-text-in-BadForm', 'returns-in-BadForm', 'shape_of-text-in-BadLength', 'returns-in-BadLength', 'shape_of-text-in-BadChecksum', 'returns-in-BadChecksum', 'shape_of-text-in-BadMagic', 'returns-in-BadMagic']

@@ -25,6 +25,6 @@ returns c =
     let report = rw add-sub_cancel_left at c.judged-answer.ensures.0 in
     let some : 0 < length (run a.at a.n a.capture.now) = omega (arith, c.if-n-eq0.false) in record {
       wrote = rw (frame-line a.at (run a.at a.n a.capture.now) _ _ some report)
-          at (wrote_then c.put_number-end.ensures.0 c.put_answer.ensures.0);
+          at (wrote_then c.put_number-end.ensures.wrote c.put_answer.ensures.wrote);
       upper_bound = omega arith;
     }

@@ -8,6 +8,4 @@ use Rattle.audit.proofs.put_tail.Goals as goal
 pub returns : goal.returns
 unfolding tail_line
 returns c =
-    wrote_then c.put-begin.ensures (wrote_then c.put_number-end.ensures.0 c.put.ensures)
-
--- TODO: 7 answers for 5 goals; new goals: ['put-begin-requires', 'put_number-end-requires', 'put-requires', 'shape_of-text', 'returns']
+    wrote_then c.put-begin.ensures (wrote_then c.put_number-end.ensures.wrote c.put.ensures)
