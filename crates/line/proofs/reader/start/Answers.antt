@@ -1,6 +1,5 @@
 -- `line::reader::start` meets its contract.
 -- Assumes nothing.
-use borrow.Author.Rules.{rules}
 use borrow.Author.Tests.{le-leb, lt-leb}
 use Rattle.octets.proofs.Zeros.{cleared-fits}
 use Rattle.line.specs.Reader.{reader_length, reader_fresh, reader_start_report, reader_start_promise}
