@@ -7,5 +7,4 @@ use Rattle.responder.proofs.sending.fail.Goals as goal
 
 pub returns : goal.returns
 unfolding step_report served_report
-returns c =
-    (refl, (refl, c.send_byte.ensures))
+returns c = record { result_value = refl; result_value_2 = refl; outbox_after = c.send_byte.ensures }
