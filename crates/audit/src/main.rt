@@ -36,7 +36,8 @@ fn audit_input<R: Read, W: Write>(
 {
     let n = read_full(input, room)?;
     let k = audit(&room[..n], text);
-    output.write_all(&text[..k])
+    output.write_all(&text[..k])?;
+    Ok(())
 }
 
 // Reads until the room is full or the input ends; how many bytes it put at the room's start.

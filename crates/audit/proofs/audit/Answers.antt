@@ -1,6 +1,5 @@
 -- `audit::audit` meets its contract.
 -- Assumes nothing.
-use borrow.Author.Rules.{rules}
 use Rattle.audit.specs.Text.{too_long}
 use Rattle.audit.proofs.Lines.{audit-over, audit-text}
 use Rattle.audit.proofs.audit.Goals as goal

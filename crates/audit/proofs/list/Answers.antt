@@ -15,7 +15,7 @@ loop-n-init c =
 pub put_frame-k-requires : goal.put_frame-k-requires
 put_frame-k-requires c =
     let l = c.loop-n in
-    let f = at-frame c.args.capture.now l.at (frame-found _ _ c.piece-1.given.1 c.next-piece.ensures) in
+    let f = at-frame c.args.capture.now l.at (frame-found _ _ c.in-Frame.is c.next-piece.ensures) in
     record {
       n_in_bounds = omega (arith, f.within);
       capture_len_bound = omega arith;
@@ -24,21 +24,21 @@ put_frame-k-requires c =
 
 pub overflow_add-at : goal.overflow_add-at
 overflow_add-at c =
-    let f = at-frame c.args.capture.now c.loop-n.at (frame-found _ _ c.piece-1.given.1 c.next-piece.ensures) in omega (arith, f.within)
+    let f = at-frame c.args.capture.now c.loop-n.at (frame-found _ _ c.in-Frame.is c.next-piece.ensures) in omega (arith, f.within)
 
 pub overflow_add-at-in-Frame : goal.overflow_add-at-in-Frame
 overflow_add-at-in-Frame c =
-    let f = at-frame c.args.capture.now c.loop-n.at (frame-found _ _ c.piece-1.given.1 c.next-piece.ensures) in omega (arith, f.within)
+    let f = at-frame c.args.capture.now c.loop-n.at (frame-found _ _ c.in-Frame.is c.next-piece.ensures) in omega (arith, f.within)
 
 pub loop-n-smaller : goal.loop-n-smaller
 loop-n-smaller c =
-    let f = at-frame c.args.capture.now c.loop-n.at (frame-found _ _ c.piece-1.given.1 c.next-piece.ensures) in omega (arith, f.within)
+    let f = at-frame c.args.capture.now c.loop-n.at (frame-found _ _ c.in-Frame.is c.next-piece.ensures) in omega (arith, f.within)
 
 pub loop-n-preserved : goal.loop-n-preserved
 loop-n-preserved c =
     let l = c.loop-n in
     let a = c.args in
-    let found = frame-found a.capture.now l.at c.piece-1.given.1 c.next-piece.ensures in
+    let found = frame-found a.capture.now l.at c.in-Frame.is c.next-piece.ensures in
     let f = at-frame a.capture.now l.at found in (
       omega (arith, f.within),
       search rules,
@@ -49,7 +49,7 @@ loop-n-preserved c =
 pub put_tail-requires : goal.put_tail-requires
 put_tail-requires c =
     let l = c.loop-n in
-    let t = at_tail c.args.capture.now l.at (tail-found _ _ c.piece-in-Tail-1.given.1 c.next-piece.ensures) in
+    let t = at_tail c.args.capture.now l.at (tail-found _ _ c.in-Tail.is c.next-piece.ensures) in
     record { n_le_longest_capture = omega (arith, t.within); k_in_bounds = omega (arith, l.invariant.2.short) }
 
 pub returns-in-Tail : goal.returns-in-Tail
@@ -57,4 +57,4 @@ returns-in-Tail c =
     let l = c.loop-n in
     let a = c.args in
     middle-end a.capture.now a.text.now l.text l.at l.k _ l.invariant.2
-    (tail-found _ _ c.piece-in-Tail-1.given.1 c.next-piece.ensures) _ _ c.put_tail.ensures
+    (tail-found _ _ c.in-Tail.is c.next-piece.ensures) _ _ c.put_tail.ensures

@@ -1,6 +1,5 @@
 -- `audit::put_tail` meets its contract.
 -- Assumes nothing.
-use borrow.Author.Rules.{rules}
 use Rattle.audit.specs.Text.{tail_line}
 use Rattle.audit.proofs.Lines.{wrote_then}
 use Rattle.audit.proofs.put_tail.Goals as goal
