@@ -318,7 +318,7 @@ module _ (image piece : List ℕ) (p : Parts) (v : Receive.valid_parts p ≡ tru
       record {
         registers_after = rw (← us, ← st, ← an, w.result_value, w.result_value_2, ← w.registers_after, b);
         registers_after_2 =
-          valid-parts (parts behind o p.factory s t) (record { reader = i; factory = h.factory; inner = w.registers_after_2 });
+            valid-parts (parts behind o p.factory s t) (record { reader = i; factory = h.factory; inner = w.registers_after_2 });
       }
 
 -- ---- the loop over a piece

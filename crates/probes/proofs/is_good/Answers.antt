@@ -7,7 +7,7 @@ use Rattle.probes.proofs.is_good.Goals as goal
 pub returns-then-index-length : goal.returns-then-index-length
 returns-then-index-length c =
     let a = c.args in
-    past-list a.length a.index a.result (omega arith)
+    past-list a.length a.index a.res (omega arith)
 
 pub returns-then-res-eq0 : goal.returns-then-res-eq0
 returns-then-res-eq0 c =

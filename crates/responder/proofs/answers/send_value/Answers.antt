@@ -21,7 +21,7 @@ send-requires c =
     record {
       outbox_length_in_bounds = p.outbox_length_in_bounds;
       rest_len_bound =
-        omega (arith, length-take (c.head_length-n.result - 0) c.write_u32.new.s, c.head_length-n.ensures.1, short);
+          omega (arith, length-take (c.head_length-n.result - 0) c.write_u32.new.s, c.head_length-n.ensures.1, short);
     }
 
 pub returns : goal.returns

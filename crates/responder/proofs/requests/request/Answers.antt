@@ -55,7 +55,7 @@ serve-requires c =
 pub returns : goal.returns
 returns c =
     rw
-      (passed-all _ _ _ _ (sym c.is_served.ensures ∙ c.if-not-is_served.false) c.if-number-ge-TOP_BIT.false
-      (sym c.is_known.ensures ∙ c.if-not-is_known.false)
-      (sym c.length_is_allowed.ensures ∙ c.if-not-length_is_allowed.false))
+    (passed-all _ _ _ _ (sym c.is_served.ensures ∙ c.if-not-is_served.false) c.if-number-ge-TOP_BIT.false
+    (sym c.is_known.ensures ∙ c.if-not-is_known.false)
+    (sym c.length_is_allowed.ensures ∙ c.if-not-length_is_allowed.false))
     c.serve.ensures
