@@ -2,13 +2,13 @@
 // Assumes nothing: a read or a write that fails ends the program with its error.
 #![tactic(auto)]
 
-ghost use Rattle.std.specs.Prelude.{◌≡◌, [], ◌+◌, ◌≤◌, OnOk, length};
-ghost use Rattle.std.specs.Io.KnownBytes.{Appends};
+ghost use Rattle.std.specs.Prelude.{◌≡◌, ℕ, List, [], ◌+◌, ◌-◌, ◌^◌, ◌≤◌, ◌<◌, true, false, IfOk, IfSome, OnOk, length};
+ghost use Rattle.std.specs.Io.KnownBytes.{Appends, IsAtEnd};
 ghost use Rattle.octets.specs.Bytes.{overlay};
 ghost use Rattle.supervisor.specs.Limits.{most_pending};
 ghost use Rattle.supervisor.specs.Calls.{parts};
 ghost use Rattle.responder.specs.Replay.{take_everything, all_pending, replay_bytes};
-ghost use Rattle.replay.specs.Feed.{feed_outcome, feed_promise};
+ghost use Rattle.replay.specs.Feed.{feed_outcome, feed_promise, Replays};
 
 use responder::receive::receive;
 use std::io;
@@ -77,6 +77,15 @@ fn replay<R: Read, W: Write>(
     registers: &mut [u8],
 ) -> io::Result<()>
     requires { most_pending ≤ length out.old }
+    ensures { OnOk result (IfSome (R.remaining input.old) (λ xs. length xs < 2 ^ 64 - 1 →
+        Appends (W.contents output.old) (W.contents output.new)
+        (replay_bytes []
+        (parts reader.old outbox.old factory.now settings.old registers.old)
+        xs).taken
+        × (parts reader.new outbox.new factory.now settings.new registers.new
+        ≡ (replay_bytes []
+        (parts reader.old outbox.old factory.now settings.old registers.old)
+        xs).parts))) }
 {
     let mut left = MOST_READS;
     while 0 < left {
@@ -103,6 +112,13 @@ fn replay_some<R: Read, W: Write>(
     registers: &mut [u8],
 ) -> io::Result<bool>
     requires { most_pending ≤ length out.old }
+    ensures { IfOk result (λ more. (bs : List ℕ)
+        × Replays (R.remaining input.old) (R.remaining input.new)
+        (W.contents output.old) (W.contents output.new)
+        (parts reader.old outbox.old factory.now settings.old registers.old)
+        (parts reader.new outbox.new factory.now settings.new registers.new) bs
+        × (more ≡ true → 0 < length bs)
+        × (more ≡ false → IsAtEnd (R.remaining input.new))) }
 {
     let n = input.read(bytes)?;
     if n == 0 {
