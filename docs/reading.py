@@ -30,7 +30,7 @@ def functions(source):
 def bound(contract):
     """A contract's parameters and the words of its language, as a telescope."""
     names = re.findall(r'(\w+): ', contract.split('ensures')[0])
-    return '(' + ' '.join(['now', '⌜', '⌝', *names, *(f'«{name}»' for name in names)]) + ' : Type)'
+    return '(' + ' '.join(['result', *names, *(f'«{name}»' for name in names)]) + ' : Type)'
 
 
 def promises(found):
