@@ -61,7 +61,7 @@ LEFT = MARGIN + GUTTER
 def depends():
     """Each box with the boxes that it builds on."""
     found = {}
-    for name, others in re.findall(r'^(\w+):(.*)$', (HERE.parent / 'crates.txt').read_text(), re.M):
+    for name, others in re.findall(r'^(\w+)(?: [^:\n]*)?:(.*)$', (HERE.parent / 'crates.txt').read_text(), re.M):
         found.setdefault('*' + TOGETHER if name.endswith(TOGETHER) else name, set()).update(others.split())
     graph = {name: others & found.keys() for name, others in found.items()}
     for name in sorted(graph.keys() - PLACES.keys()):

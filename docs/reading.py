@@ -5,7 +5,7 @@ how many definitions and lines that is.
 Comments are not counted. Works from the sources (docs/sources.py); names of the kit's libraries are not listed.
 Assumes that the crates check.
 
-usage: docs/reading.py NAME            a claim (never-replaced), a record (Item7), a definition (judge), a public function (line::reader::read)
+usage: docs/reading.py NAME            a claim (never_replaced), a record (Item7), a definition (judge), a public function (line::reader::read)
        docs/reading.py CRATE.NAME      where several crates have the name (supervisor_claims.NumberDue, requester_claims.cut)
        docs/reading.py CRATE.RECORD.NAME    where several records of a crate have it (claims.Item6.line)
        docs/reading.py --total NAME    the last line alone
@@ -30,7 +30,7 @@ def functions(source):
 def bound(contract):
     """A contract's parameters and the words of its language, as a telescope."""
     names = re.findall(r'(\w+): ', contract.split('ensures')[0])
-    return '(' + ' '.join(['now', '⌜', '⌝', *names, *(f'«{name}»' for name in names)]) + ' : Type)'
+    return '(' + ' '.join(['result', *names, *(f'«{name}»' for name in names)]) + ' : Type)'
 
 
 def promises(found):

@@ -7,7 +7,7 @@ import re
 ROOT = pathlib.Path(__file__).resolve().parent.parent
 CRATES = ROOT / 'crates'
 
-PATH = re.compile(r'Rattle·(\w+)((?:[·.][^\s·.{};]+)*)')
+PATH = re.compile(r'Rattle\.(\w+)((?:\.[^\s.{};]+)*)')
 USE = re.compile(r'^(ghost )?(pub )?use ([^;{]+?)(?: as (\S+?))?(?:\.\{([^}]*)\})?;?$')
 HEAD = re.compile(r'^( *)((?:(?:abbrev|unfoldable|pub) )*)(record|data|ruleset)? ?(?:\{)?([^\s(){}:=.,;]+)(?=[ \n]|$)')
 SIGNATURE = re.compile(r'^( *)((?:(?:abbrev|unfoldable|pub) )*)([^\s(){}:=.,;]+) :(?= |$)')
@@ -15,7 +15,9 @@ TYPE = re.compile(r'^( *)((?:(?:abbrev|unfoldable|pub) )*)(record|data|ruleset) 
 MODULE = re.compile(r'^( *)module _ ?(.*)$')
 # words of the language and of tactics
 WORDS = set('data record deriving module where use mod pub package using open as unfoldable abbrev axiom unfold unfolding ruleset mutual infix infixl infixr elim let in do '
-            'λ ∀ Type Unit → × ≡ ← = : rw simp search grw cc omega cap refl tt absurd _ | ⊥ ⊤ .'.split())
+            'λ ∀ Type Unit → × ≡ ← = : rw simp search grw grind cc omega subst cap refl tt absurd _ | ⊥ ⊤ .'.split())
+# A crate's folder for what the kit builds has copies of the sources.
+BUILT = ('out', 'target')
 TOKEN = re.compile(r'«[^»]*»|"(?:[^"\\]|\\.)*"|[^\s(){},;"]+|[(){},;]')
 DEFINES = ('record', 'data', 'abbrev', 'unfoldable')
 
@@ -52,20 +54,20 @@ def uncommented(line):
 
 
 def canonical(path):
-    """The module of this repository that an import's path leads to, as line.specs.Reader; None for one of the kit."""
+    """The module of this repository that an import's path leads to, as line.specs.Reader; None for one of the kit, whose std is under Rattle too."""
     match = PATH.match(path)
-    if not match:
-        return None
-    parts = [part for part in re.split('[·.]', match.group(2)) if part]
-    if len(parts) > 1 and parts[0] == parts[1]:
-        del parts[0]
-    return '.'.join([match.group(1)] + parts)
+    return match.group(1) + match.group(2) if match and (CRATES / match.group(1)).is_dir() else None
 
 
 def ensured(head):
     """What each `ensures` of a contract says, in one line; `head` is a function's text between its name and its body."""
-    found = re.findall(r'^ *ensures \{(.*?)\}$(?=\s*(?:(?:requires|ensures) \{|\Z))', head, re.M | re.S)
+    found = re.findall(r'^ *ensures (?:\w+ )?\{(.*?)\}$(?=\s*(?:(?:requires|ensures) (?:\w+ )?\{|\Z))', head, re.M | re.S)
     return [' '.join(text.split()) for text in found]
+
+
+def crate_files():
+    """The files of antt and of Rattle of every crate, without what the kit builds beside them."""
+    return [path for path in sorted(CRATES.rglob('*')) if path.suffix in ('.antt', '.rt') and not set(BUILT) & set(path.relative_to(CRATES).parts)]
 
 
 class File:
@@ -94,7 +96,7 @@ class File:
             _, public, path, alias, listed = match.groups()
             module = canonical(path)
             if listed is None:
-                self.aliases[alias or re.split('[·.]', path)[-1]] = module
+                self.aliases[alias or path.split('.')[-1]] = module
                 continue
             for name in (name.strip() for name in listed.split(',')):
                 said = name.split(' as ')[-1].strip()
@@ -108,7 +110,7 @@ class File:
         while at < len(self.bare):
             line = self.bare[at]
             depth = len(line) - len(line.lstrip())
-            if not line.strip() or USE.match(line.rstrip()) or re.match(r'^ *(pub )?mod ', line):
+            if not line.strip() or USE.match(line.rstrip()) or re.match(r'^ *(pub )?(mod|open) ', line):
                 at += 1
                 continue
             around = [(deep, text) for deep, text in around if deep < depth]
@@ -196,8 +198,7 @@ class Sources:
 
     def __init__(self, texts=()):
         texts = dict(texts)
-        paths = [path for path in sorted(CRATES.rglob('*')) if path.suffix in ('.antt', '.rt') and 'target' not in path.parts]
-        self.files = {file.module: file for file in (File(path, texts.get(path)) for path in paths)}
+        self.files = {file.module: file for file in (File(path, texts.get(path)) for path in crate_files())}
 
     def items(self):
         return [item for file in self.files.values() for item in file.items]
@@ -224,7 +225,7 @@ class Sources:
         parts = module.split('.')
         if 'declared' not in parts:
             return None
-        crate, within = parts[0], [part for part in parts[parts.index('declared') + 1:] if part != 'the-variants']
+        crate, within = parts[0], [part for part in parts[parts.index('declared') + 1:] if part != 'TheVariants']
         source = self.files.get('.'.join([crate, 'src'] + (within[:-1] or ['lib'])))
         for n, line in enumerate(source.bare if source else []):
             if re.match(r'^(?:pub(?:\(crate\))? )?(?:struct|enum) ' + re.escape(within[-1]) + r'\b', line):
@@ -268,7 +269,8 @@ class Sources:
             word = match.group(0).rstrip('.')
             if not word or word in WORDS or word in '(){},;' or word[0] in '."' or match.start() in ahead or word[0].isdigit():
                 continue
-            if local.get(word, len(text)) <= match.start():
+            # a projection is written tight: of r.f and s.now what is bound is r and s
+            if min(local.get(name, len(text)) for name in (word, word.partition('.')[0])) <= match.start():
                 continue
             target = self.resolved(file, word) or self.operator(file, word)
             if target is None:
@@ -278,8 +280,8 @@ class Sources:
         return known, unknown
 
     def operator(self, file, word):
-        """An operator by its sign: + for _+_."""
-        for name in (f'_{word}_', f'{word}_', f'_{word}'):
+        """An operator by its sign: + for ◌+◌."""
+        for name in (f'◌{word}◌', f'{word}◌', f'◌{word}'):
             if name in file.names or name in file.own:
                 return self.resolved(file, name)
         return None

@@ -4,7 +4,7 @@
 TARGET := x86_64-linux
 ROW := $(shell awk '$$1 == "$(TARGET)"' $(ROOT)/examples/targets)
 $(if $(ROW),,$(error examples/targets has no $(TARGET)))
-ARCHIVE := $(or $(wildcard $(ROOT)/lib/$(TARGET)/liboatcastle.a),$(ROOT)/target/$(word 2,$(ROW))/liboatcastle.a)
+ARCHIVE := $(or $(wildcard $(ROOT)/lib/$(TARGET)/liboatcastle.a),$(ROOT)/$(word 2,$(ROW))/liboatcastle.a)
 RUN := $(filter-out -,$(word 3,$(ROW)))
 COMPILE := $(if $(filter cc,$(word 4,$(ROW))),$(CC),$(wordlist 4,99,$(ROW)))
 NO_LIBRARY := -ffreestanding -fno-builtin -fno-tree-loop-distribute-patterns -nostdlib -static -Wl,-z,noexecstack \
@@ -12,8 +12,8 @@ NO_LIBRARY := -ffreestanding -fno-builtin -fno-tree-loop-distribute-patterns -no
 BARE := $(if $(filter qemu-arm qemu-riscv32,$(RUN)),$(NO_LIBRARY))
 BARE_END := $(if $(BARE),-lgcc)
 
-$(ROOT)/target/staticlib/liboatcastle.a:
-	cd $(ROOT) && rt staticlib oatcastle
+$(ROOT)/crates/oatcastle/out/liboatcastle.a:
+	cd $(ROOT)/crates/oatcastle && rt lib --cpu x86-64
 
 $(ROOT)/target/cross/%/liboatcastle.a:
 	$(ROOT)/cross/build $*

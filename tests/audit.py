@@ -2,7 +2,7 @@
 """Compares three readers of captured streams: the audit program, the line reader of the static library in random cuts, and the model below.
 The model is worked out from documents 01 and 02 and not from the Rattle code. Then gives the model faults one by one: each must change the
 text of some capture.
-Assumes target/bin/audit, target/staticlib/liboatcastle.a and a C compiler. Ends with 1 at the first difference.
+Assumes crates/audit/out/audit, crates/oatcastle/out/liboatcastle.a and a C compiler. Ends with 1 at the first difference.
 
 usage: tests/audit.py [SEED [COUNT]]      (1 and 3,000: the gate's run)"""
 import os

@@ -9,7 +9,7 @@ import subprocess
 import sys
 
 ROOT = pathlib.Path(__file__).resolve().parent.parent
-LIBRARY = 'target/staticlib/liboatcastle.a'
+LIBRARY = 'crates/oatcastle/out/liboatcastle.a'
 
 
 def made(*files):

@@ -2,7 +2,7 @@
 """Holds the form of the sources to its limits:
 - no line of crates/*/{src,specs,proofs} and of include/ is wider than 140 columns, none of the headers wider than 100;
 - no public name of specs/ is defined in two modules;
-- three positions in a row of a walk (`.before .before .before`) stand only where a name is given to the place that they lead to.
+- three positions in a row of a walk (`.before.before.before`) stand only where a name is given to the place that they lead to.
 Prints each fault with its place, then how many files were read and how many faults of each kind they have; any fault fails the check.
 Assumes the layout of crates.txt, and files as docs/sources.py reads them. A column is a character, whatever its width on a screen.
 
@@ -17,7 +17,7 @@ sys.path.insert(0, str(ROOT / 'docs'))
 import sources  # noqa: E402
 
 WIDTH, HEADER_WIDTH = 140, 100
-RUN = re.compile(r'(?: \.before){3,}')
+RUN = re.compile(r'(?:\.before){3,}')
 # what stands ahead of a run where a name is given: a `let`, or the head of a definition
 NAMED = re.compile(r'(?:\blet \S+ = |^\S+(?: \S+)? = )[^=]*$')
 
@@ -66,7 +66,7 @@ def planted(texts):
     spec, header = (next(path for path in texts if path.match(name)) for name in ('crates/line/specs/Frame.antt', 'include/oatcastle.h'))
     wide, twice, bare = KINDS
     plants = [(wide, spec, f'-- {"wide " * 28}'), (wide, header, f'/* {"wide " * 19} */'), (twice, spec, 'abbrev pub lookup : ℕ\nlookup = 0'),
-              (bare, spec, 'pub law : ℕ\nlaw c d = f (c .before .before .before .pre)')]
+              (bare, spec, 'pub law : ℕ\nlaw c d = f c.before.before.before.pre')]
     missed = [kind for kind, path, text in plants
               if [other for other, found in faults({**texts, path: texts[path] + f'\n{text}\n'}).items() if found] != [kind]]
     for kind in missed:

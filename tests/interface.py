@@ -150,7 +150,7 @@ def function_faults(texts):
 @functools.cache
 def rust_structs(text):
     """The fields of each struct with C's layout in Rattle or Rust."""
-    found = re.findall(r'#\[repr\(C\)\]\npub struct (\w+) \{\n(.*?)\n\}', text, re.S)
+    found = re.findall(r'#\[repr\(C\)\]\n(?:#\[[^\n]*\]\n)*pub struct (\w+) \{\n(.*?)\n\}', text, re.S)
     return {name: [(field, NUMBERS[kind]) for field, kind in re.findall(r'pub (?:r#)?(\w+): (\w+),', inside)] for name, inside in found}
 
 
@@ -245,8 +245,8 @@ def arms(text):
 def places(text, known):
     """The place of each field that the view reads: those of the factory store, and those of an item from its start on."""
     found = {}
-    for name, place in re.findall(r'^  ([\w-]+) = (?:numberAt \d+ f|run) (Layout\.[\w-]+|\(Layout\.[^)]*\))[^\n]*;$', text, re.M):
-        words = re.sub(r'Layout\.item-offset i', '0', place.strip('()'))
+    for name, place in re.findall(r'^  ([\w-]+) = (?:number_at \d+ f|run) (Layout\.[\w-]+|\(Layout\.[^)]*\))[^\n]*;$', text, re.M):
+        words = re.sub(r'Layout\.item_offset i', '0', place.strip('()'))
         found[name] = eval(re.sub(r'Layout\.([\w-]+)', lambda m: m.group(1).upper().replace('-', '_'), words), {}, known)
     return found
 
@@ -286,7 +286,7 @@ def reasons():
     answered, known = arms(library(link=False)), constants(MESSAGES)
     tested = read('crates/responder/specs/Requests.antt')
     found = {name: the_one(name, (reason for _, reason in answered[f'Answer::Bad{name.title()}'])) for name in ('FORM', 'CHECKSUM', 'LENGTH', 'MAGIC')}
-    for name, test in (('VERSION', r'not \(versionServed \(m \.version\)\)\)'), ('SEQUENCE', r'leb top-bit \(m \.sequence\)\)'), ('DATA', r'lengthAllowed [^\n]*\)\)')):
+    for name, test in (('VERSION', r'not \(version_served m\.version\)\)'), ('SEQUENCE', r'leb top_bit m\.sequence\)'), ('DATA', r'length_allowed [^\n]*\)\)')):
         found[name] = known[the_one(name, re.findall(test + r' \(failure ([\w-]+) ', tested)).upper().replace('-', '_')]
     return {f'REASON_{name}': number for name, number in found.items()}
 
@@ -334,7 +334,7 @@ def root_of_trust():
 def settings(known, most='longest'):
     """The longest (or shortest) value of each settings key: the table of the definitions, which the code's constants must be too, one for each key
     (of the shortest those that are not 0)."""
-    table = re.search(rf'^{most}-settings = (.*)∷ \[\]$', read('crates/supervisor/specs/Limits.antt'), re.M).group(1)
+    table = re.search(rf'^{most}_settings = (.*)∷ \[\]$', read('crates/supervisor/specs/Limits.antt'), re.M).group(1)
     keys = range(known['FIRST_SETTING'], known['HIGHEST_KEY'] + 1)
     listed = [int(n) for n in table.split('∷') if n.strip()]
     if listed != [known.get(f'{most.upper()}_KEY_{key}', None if most == 'longest' else 0) for key in keys]:
@@ -348,7 +348,7 @@ def limits():
                                             'MOST_KEPT', 'MOST_PENDING', 'MOST_ALERTS', 'MOST_ITEMS', 'START_LENGTH', 'ITEM_LENGTH')}
     at = places(read('crates/supervisor_claims/specs/View.antt'), known)
     start = {'MODEL': at['model'], 'REVISION': at['revision'], 'SERIAL': at['serial'], 'MAC_BASE': at['base'], 'MAC_COUNT': at['count'],
-             'MAC_STRIDE': at['stride'], 'IMAGE_HASH': at['hash'], 'IMAGE_ID': at['image-id'], 'BSU': known['BSU_OFFSET'],
+             'MAC_STRIDE': at['stride'], 'IMAGE_HASH': at['hash'], 'IMAGE_ID': at['image_id'], 'BSU': known['BSU_OFFSET'],
              'IMAGE_ID_LENGTH': known['IMAGE_ID_LENGTH_OFFSET'], 'ITEMS': known['ITEMS_OFFSET'], 'ITEM_COUNT': known['ITEM_COUNT_OFFSET']}
     item = {'RESULT': at['result'], 'NAME': at['name'], 'TYPE': at['type'], 'DATA': at['payload'], 'DATA_LENGTH': known['ITEM_DATA_LENGTH_OFFSET']}
     passphrase = {'RECORD': 0, 'EDITION': known['SETTING_EDITION_OFFSET'], 'LENGTH': known['SETTING_LENGTH_OFFSET'], 'VALUE': known['SETTING_VALUE_OFFSET']}
@@ -384,10 +384,10 @@ def commands():
     known, defined = constants(MESSAGES), definitions('crates/line/specs/Numbers.antt')
     if known != defined:
         sys.exit(f'interface.py: the numbers of messages differ between code and definitions: {sorted(known.items() ^ defined.items())}')
-    named = re.findall(r'^commandNumber ([\w-]+) = command-([\w-]+)$', read('crates/responder/specs/Commands.antt'), re.M)
+    named = re.findall(r'^command_number ([\w-]+) = command_(\w+)$', read('crates/responder/specs/Commands.antt'), re.M)
     found = {name: number for name, number in known.items() if name.startswith(('COMMAND_', 'REPLY_'))}
-    if {f'COMMAND_{name.upper().replace("-", "_")}' for name, same in named if name == same} != {name for name in found if name.startswith('COMMAND_')}:
-        sys.exit('interface.py: commandNumber does not give each command the number of its name')
+    if {f'COMMAND_{same.upper()}' for name, same in named if name.replace('-', '_') == same} != {name for name in found if name.startswith('COMMAND_')}:
+        sys.exit('interface.py: command_number does not give each command the number of its name')
     return found
 
 
@@ -419,7 +419,7 @@ def bits_and_codes(known):
     meant, defined = read('crates/responder/specs/Requests.antt'), definitions('crates/supervisor/specs/Limits.antt')
     named = {**known, 'INVENTORY_BAD_INDEX': constants('crates/responder/src/answers.rt')['BAD_INDEX']}
     found = {name: the_one(name, (named[name], defined[name])) for name in ('INVENTORY_ITEM', 'INVENTORY_BAD_INDEX', 'INVENTORY_ABSENT', 'INVENTORY_FAILED', 'BSU_A', 'BSU_B')}
-    for name, place in (('RESTARTED', r'^startAcknowledged .*clearBit \(s \.status\) (\d)'), ('ALERTS', r'^statusAfter .*clearBit status (\d)')):
+    for name, place in (('RESTARTED', r'^start_acknowledged .*clear_bit s\.status (\d)'), ('ALERTS', r'^status_after .*clear_bit status (\d)')):
         found[f'STATUS_{name}'] = 1 << the_one(name, map(int, re.findall(place, meant, re.M)))
     if known['HIGHEST_OPTION'] + 1 != len(OPTIONS):
         sys.exit('interface.py: OPTIONS does not name every option bit')
@@ -550,10 +550,22 @@ def text_faults(texts):
 CONSTANT = r'^(?:pub(?:\(crate\))? )?const (\w+): [^=]+=\s*([^;]+);'
 
 
+USED = r'^(?:pub )?use ([\w:]+)::(?:(\w+)|\{([^{}]*)\});$'
+
+
+def spelled_out(crate, text):
+    """A file's code without its imports, and each constant that it imports behind its module's name."""
+    for path, one, several in re.findall(USED, text, re.M):
+        module = crate if path == 'crate' else path.split('::')[-1]
+        for name in re.findall(r'\b[A-Z][A-Z0-9_]*\b', one + several):
+            text = re.sub(rf'(?<![\w:]){name}\b', f'{module}::{name}', text)
+    return re.sub(USED, '', text, flags=re.M)
+
+
 def sources():
     """The code of the crates that the library is made of, by file."""
-    crates = re.search(r'^oatcastle: (.*)$', read('crates.txt'), re.M).group(1).split()
-    return {path.relative_to(ROOT).as_posix(): path.read_text() for crate in ['oatcastle', *crates] for path in sorted((ROOT / 'crates' / crate / 'src').glob('*.rt'))}
+    crates = re.search(r'^oatcastle(?: staticlib)?: (.*)$', read('crates.txt'), re.M).group(1).split()
+    return {path.relative_to(ROOT).as_posix(): spelled_out(crate, path.read_text()) for crate in ['oatcastle', *crates] for path in sorted((ROOT / 'crates' / crate / 'src').glob('*.rt'))}
 
 
 @functools.cache

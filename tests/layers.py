@@ -17,6 +17,7 @@ Assumes the layout of crates.txt, and uses, paths and contracts as `rt fmt` lays
 
 usage: tests/layers.py            prints what is wrong, or how much was looked at
        tests/layers.py planted    plants names of the layout, cycles, and code of the line layer in `plain`, which must be seen"""
+import functools
 import pathlib
 import re
 import sys
@@ -27,15 +28,13 @@ import sources  # noqa: E402
 
 LINE = ROOT / 'crates' / 'line'
 LAYOUT = 'specs.ReaderLayout'
-# line·specs.specs.Reader inside the crate, line.specs.Reader above it; a name in the module may follow
-NAME = re.compile(r'Rattle·line(?![\w-])((?:[·.][\w-]+)*)')
+# Rattle.line.specs.Reader; a name in the module may follow
+NAME = re.compile(r'Rattle\.line(?![\w-])((?:\.[\w-]+)*)')
 
 
 def module(path):
     """The module that a path leads to, as specs.Reader."""
-    parts = re.split('[·.]', path)[1:]
-    if len(parts) > 1 and parts[0] == parts[1]:
-        del parts[0]
+    parts = path.split('.')[1:]
     return '.'.join(parts[:4] if parts[1:2] == ['declared'] else parts[:2])
 
 
@@ -56,10 +55,10 @@ def public_types():
 
 def cited(text):
     """The modules of line's specs whose names stand in an `ensures` of a public function."""
-    uses = re.findall(r'^ghost use (Rattle·line[^;{]*)\.\{(.*)\};$', text, re.M)
+    uses = re.findall(r'^ghost use (Rattle\.line(?![\w-])[^;{]*)\.\{(.*)\};$', text, re.M)
     found = set()
     for function, head in re.findall(r'^ *pub fn (\w+)(.*?)(?<!record )\{$', text, re.M | re.S):
-        words = set(re.findall(r'[^\s(){}⌜⌝,;]+', ' '.join(sources.ensured(head))))
+        words = set(re.findall(r'[^\s(){},;]+', ' '.join(sources.ensured(head))))
         modules = {name for path, names in uses if words.intersection(names.split(', ')) for name in named(path)}
         if not modules:
             sys.exit(f'layers: the contract of line\'s public function {function} cites no definition of line')
@@ -87,20 +86,20 @@ def line_files():
 def imports(text):
     """The names that a text imports of line, each with its module and its name there; a module's own name stands for all of it."""
     found = {}
-    for path, names, alias in re.findall(r'^(?:ghost )?use (Rattle·line(?![\w-])[^\s{;]*?)(?:\.\{(.*)\})?(?: as (\S+?))?;?$', text, re.M):
+    for path, names, alias in re.findall(r'^(?:ghost )?use (Rattle\.line(?![\w-])[^\s{;]*?)(?:\.\{(.*)\})?(?: as (\S+?))?;?$', text, re.M):
         for name in filter(None, names.split(', ')):
             there, _, here = name.partition(' as ')
-            found[here or there] = (module(path[len('Rattle·line'):]), there)
+            found[here or there] = (module(path[len('Rattle.line'):]), there)
         if not names:
-            found[alias or re.split('[·.]', path)[-1]] = (module(path[len('Rattle·line'):]), '')
+            found[alias or path.split('.')[-1]] = (module(path[len('Rattle.line'):]), '')
     return found
 
 
 def words(text):
-    """The names in a text, without those that it binds."""
+    """The names in a text, without those that it binds and what is read of these (x.f)."""
     text = re.sub(r'(^|\s)-- .*$', '', text, flags=re.M)
     bound = {name for names in re.findall(r'[({]([^(){}:;=→]+) : |λ ([^.(]+)\.', text) for name in ' '.join(names).split()}
-    return [word for word in re.findall(r'[^\s(){}⌜⌝,;]+', text) if word not in bound]
+    return [word for word in re.findall(r'[^\s(){},;]+', text) if not bound & {word, word.partition('.')[0]}]
 
 
 def reaches(text, known):
@@ -153,7 +152,7 @@ def stated_modules(text):
         seen.add(name)
         said = declared[name]['statement'] + (declared[name]['body'] if declared[name]['kind'] else '')
         found |= {other for other, _ in reaches(said, known)}
-        rest += [word for word in words(said) if word in declared]
+        rest += [name for word in words(said) for name in {word, word.partition('.')[0]} if name in declared]
     return found
 
 
@@ -180,7 +179,7 @@ def stated():
 
 def crates_above():
     """The crates that depend on line, over others too."""
-    depends = dict(re.findall(r'^(\w+):(.*)$', (ROOT / 'crates.txt').read_text(), re.M))
+    depends = dict(re.findall(r'^(\w+)(?: [^:\n]*)?:(.*)$', (ROOT / 'crates.txt').read_text(), re.M))
     found = {'line'}
     while True:
         more = {name for name in depends if found.intersection(depends[name].split())} - found
@@ -196,17 +195,25 @@ def texts_of(folder):
     return {path.stem: re.sub(r'(^|\s)(--|//) .*$', '', path.read_text(), flags=re.M) for path in folder.iterdir() if path.suffix in ('.antt', '.rt')}
 
 
+def own_names(text):
+    """The first name behind each `crate::`."""
+    yield from re.findall(r'\bcrate::(\w+)', text)
+    for inside in re.findall(r'\bcrate::\{((?:[^{}]|\{[^{}]*\})*)\}', text):
+        yield from re.findall(r'(?:^|,)\s*(\w+)', re.sub(r'\{[^{}]*\}', '', inside))
+
+
 def code_names(texts):
-    """What each module of code names of the others: `crate::head` in any module, or `head::` in the root, which declares it. What is `crate::` and no module is the root's."""
+    """What each module of code names of the others: `crate::head` in any module, alone or in braces (`crate::{head, limits::LONGEST}`), or `head::` in
+    the root, which declares it. What is `crate::` and no module is the root's."""
     root = 'main' if 'main' in texts else 'lib'
-    found = {name: {other if other in texts else root for other in re.findall(r'\bcrate::(\w+)', text)} for name, text in texts.items()}
+    found = {name: {other if other in texts else root for other in own_names(text)} for name, text in texts.items()}
     found[root] |= {other for other in re.findall(r'(?<!::)\b(\w+)::', texts[root]) if other in texts}
     return found
 
 
-def specs_names(texts):
+def specs_names(crate, texts):
     """What each module of specs/ names of the others in its uses."""
-    return {name: set(re.findall(r'^(?:pub )?use Rattle·\w+·specs\.specs\.(\w+)', text, re.M)) & set(texts) for name, text in texts.items()}
+    return {name: set(re.findall(rf'^(?:pub )?use Rattle\.{crate}\.specs\.(\w+)', text, re.M)) & set(texts) for name, text in texts.items()}
 
 
 def reached(names, start):
@@ -229,7 +236,7 @@ def crate_modules():
     for crate in sorted((ROOT / 'crates').iterdir()):
         yield crate.name, 'src', texts_of(crate / 'src'), code_names
         if (crate / 'specs').exists():
-            yield crate.name, 'specs', texts_of(crate / 'specs'), specs_names
+            yield crate.name, 'specs', texts_of(crate / 'specs'), functools.partial(specs_names, crate.name)
 
 
 # ---- The second reader, and claims below code
@@ -241,7 +248,7 @@ def calls_of_line(texts):
 
 def on_claims(listed):
     """The crates with code that depend on a crate of claims, by the text of crates.txt."""
-    for name, others in re.findall(r'^(\w+):(.*)$', listed, re.M):
+    for name, others in re.findall(r'^(\w+)(?: [^:\n]*)?:(.*)$', listed, re.M):
         claims = [other for other in others.split() if other.endswith('_claims')]
         if claims and not re.search(r'(^|_)claims$', name):
             yield f'crates.txt: {name} depends on {", ".join(claims)}'
@@ -257,14 +264,14 @@ def planted_layout():
     path = 'crates/supervisor_claims/proofs/calls/StepClaim.antt'
     received, reader = files['proofs.Received'], files['specs.Reader']
     plants = {
-        'the module': ({**above, path: above[path] + '\nuse Rattle·line.specs.ReaderLayout.{receivedCount}'}, files),
-        'the module by its name': ({**above, path: above[path] + '\nuse Rattle·line.specs.ReaderLayout as Layout'}, files),
-        'a law on it': ({**above, path: above[path] + '\nuse Rattle·line.proofs.State.{count-counted}'}, files),
+        'the module': ({**above, path: above[path] + '\nuse Rattle.line.specs.ReaderLayout.{received_count}'}, files),
+        'the module by its name': ({**above, path: above[path] + '\nuse Rattle.line.specs.ReaderLayout as Layout'}, files),
+        'a law on it': ({**above, path: above[path] + '\nuse Rattle.line.proofs.State.{count-counted}'}, files),
         'a definition unfolded': ({**above, path: above[path] + '\nunfolding LineReader.pushed'}, files),
-        'the same on a second line': ({**above, path: above[path] + '\nunfolding LineReader.readPiece\n    LineReader.dataPromise'}, files),
+        'the same on a second line': ({**above, path: above[path] + '\nunfolding LineReader.read_piece\n    LineReader.data_promise'}, files),
         'a public law on it': (above, {**files, 'proofs.Received': received.replace('\ncounted-each :', '\npub counted-each :')}),
-        'a public abbreviation of a law file': (above, {**files, 'proofs.Received': received + '\nabbrev pub at : List ℕ → ℕ\nat s = receivedCount s\n'}),
-        'a law by a private abbreviation': (above, {**files, 'proofs.Received': received + '\nabbrev at : List ℕ → ℕ\nat s = receivedCount s\n\npub law : (s : List ℕ) → at s ≡ 0\n'}),
+        'a public abbreviation of a law file': (above, {**files, 'proofs.Received': received + '\nabbrev pub at : List ℕ → ℕ\nat s = received_count s\n'}),
+        'a law by a private abbreviation': (above, {**files, 'proofs.Received': received + '\nabbrev at : List ℕ → ℕ\nat s = received_count s\n\npub law : (s : List ℕ) → at s ≡ 0\n'}),
         'an abbreviation of the promise': (above, {**files, 'specs.Reader': reader.replace('unfoldable pub pushed :', 'abbrev pub pushed :')}),
     }
     if internal_names(above, files)[1]:
@@ -275,8 +282,9 @@ def planted_layout():
 def planted():
     """Cycles in memory: between two modules of code, over a third, with the root, and in specs/."""
     folders = {(crate, part): (texts, read) for crate, part, texts, read in crate_modules()}
-    plants = [('requester', 'src', 'progress', 'use crate::hearing;'), ('responder', 'src', 'sending', 'use crate::receive::Stepped;'),
-              ('line_cases', 'src', 'print', 'use crate::run_all;'), ('responder', 'specs', 'Commands', 'use Rattle·responder·specs.specs.Receive.{stepOutcome}')]
+    plants = [('requester', 'src', 'progress', 'use crate::hearing;'), ('requester', 'src', 'progress', 'use crate::{\n    layout::KEPT_OFFSET,\n    hearing,\n};'),
+              ('responder', 'src', 'sending', 'use crate::receive::Stepped;'),
+              ('line_cases', 'src', 'print', 'use crate::run_all;'), ('responder', 'specs', 'Commands', 'use Rattle.responder.specs.Receive.{step_outcome}')]
     missed = []
     for crate, part, name, line in plants:
         texts, read = folders[crate, part]
@@ -296,7 +304,7 @@ def planted():
 def files_above():
     """The files of the crates above line, by their paths."""
     return {str(path.relative_to(ROOT)): path.read_text() for crate in sorted(crates_above()) for path in sorted((ROOT / 'crates' / crate).rglob('*'))
-            if path.suffix in ('.antt', '.rt')}
+            if path.suffix in ('.antt', '.rt') and 'out' not in path.relative_to(ROOT).parts}
 
 
 def unfolded(text):

@@ -43,9 +43,9 @@ CODE, ITEM = '\N{REPLACEMENT CHARACTER}', re.compile(r'(?:[-*]|\d+\.) +')
 
 
 def documents():
-    """Every Markdown file of the repository but those of wip/ and target/: its path from the root, and its text."""
-    paths = {path.relative_to(ROOT).as_posix(): path for path in sorted(ROOT.rglob('*.md'))}
-    return {name: path.read_text(encoding='utf-8') for name, path in paths.items() if 'target/' not in name and not name.startswith('wip/')}
+    """Every Markdown file of the repository but those of wip/ and of what is built: its path from the root, and its text."""
+    paths = [path.relative_to(ROOT) for path in sorted(ROOT.rglob('*.md'))]
+    return {path.as_posix(): (ROOT / path).read_text(encoding='utf-8') for path in paths if not {'target', 'out', '.shadow'} & set(path.parts) and path.parts[0] != 'wip'}
 
 
 def prose_lines(text):

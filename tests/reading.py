@@ -19,23 +19,23 @@ import sources  # noqa: E402
 
 LISTS = {
     # each run of a part that is shorter than its published length is a loan
-    'any-run': 'AnyRun lentPart Loan fewer run',
+    'any_run': 'AnyRun lent_part Loan fewer run',
     # the blind spots at one or two neighbouring bytes
-    'checksum-claim': 'ChecksumClaim Near SameButAt AllSameOr00Ff SameOr00Ff Each Byte checksum sums',
+    'checksum_claim': 'ChecksumClaim Near SameButAt AllSameOr00Ff SameOr00Ff Each Byte checksum sums',
     # the promise of the call that reads an unfinished tail's length: its own report, the tail, 12's test, and where the number of bytes stands
-    'line::reader::tail': 'tailReport Unfinished TailReport tailPromise tailOf receivedOf receivedBytes validReader receivedCount numberAt number run overlong '
-                          'longest-form longest-message longest-group reader-length frame-offset',
+    'line::reader::tail': 'tail_report Unfinished TailReport tail_promise tail_of received_of received_bytes valid_reader received_count number_at number run overlong '
+                          'longest_form longest_message longest_group reader_length frame_offset',
 }
 
 # names with the crates that have a claim of their own by it; a claim that several records hold is one
 SEVERAL = {
     'history': 'requester_claims supervisor_claims',
-    'refused-exactly': 'line_claims supervisor_claims',
-    'round-trip': 'both_claims line_claims',
-    'value-last-set': '',
-    'too-little': '',
-    'parts-fit': '',
-    'main-processor': 'claims.AsItWas claims.Item14 claims.Item2 claims.Item6 claims.NumberDue',
+    'refused_exactly': 'line_claims supervisor_claims',
+    'round_trip': 'both_claims line_claims',
+    'value_last_set': '',
+    'too_little': '',
+    'parts_fit': '',
+    'main_processor': 'claims.AsItWas claims.Item14 claims.Item2 claims.Item6 claims.NumberDue',
 }
 
 
@@ -75,7 +75,7 @@ def main():
         wrong += [f'docs/CLAIMS.md:{number}: {name} is several claims' for name in sorted(bare) if reading.several(found, name)]
     path = found.files['line_claims.specs.Loans'].path
     planted = sources.Sources({path: path.read_text().replace('min n (published - 1)', 'least n (published - 1)')})
-    if not reading.rest(planted, reading.named(planted, 'any-run')[0])[1]:
+    if not reading.rest(planted, reading.named(planted, 'any_run')[0])[1]:
         wrong.append('reading: a word that stands for nothing was not reported')
     print('\n'.join(wrong) or f'reading: {len(LISTS)} lists as written out by hand; a word that stands for nothing is reported; {len(SEVERAL)} names of one claim or several')
     sys.exit(1 if wrong else 0)

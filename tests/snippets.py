@@ -4,7 +4,7 @@ headers. Each runs on frames with spare 00s, damaged frames and further frames a
 is compared with what the papers say, and with the replay program.
 One with a main reads standard input; any other has a driver tests/snippets/NAME.c or NAME.rs for a function NAME of it, and one without is an error.
 Then each mistake of MISTAKES is put into its snippet, and must be seen.
-Assumes cc, rustc, target/bin/replay and target/staticlib/liboatcastle.a.
+Assumes cc, rustc, crates/replay/out/replay and crates/oatcastle/out/liboatcastle.a.
 
 usage: tests/snippets.py"""
 import os
@@ -17,7 +17,7 @@ from common import LIBRARY, ROOT, made
 
 OUT = ROOT / 'target/snippets'
 DRIVERS = ROOT / 'tests/snippets'
-REPLAY = 'target/bin/replay'
+REPLAY = 'crates/replay/out/replay'
 DEFINED = {'c': r'^(?:static )?\w+ \**(\w+)\([^;{]*\)\n\{', 'rs': r'^fn (\w+)'}
 # What a snippet must not do: the file that it stands in and its language, what is replaced in it, and by what.
 MISTAKES = {
@@ -171,7 +171,7 @@ def built(place, language, text, name):
     if language == 'c':
         run(os.environ.get('CC', 'cc'), '-std=c99', '-O1', '-Wall', '-Wextra', '-Werror', '-Iinclude', source, LIBRARY, '-o', program)
     else:
-        run('rustc', '--edition', '2021', '-D', 'warnings', '--extern', f'oatcastle={OUT / "liboatcastle.rlib"}', '-L', 'native=target/staticlib', source, '-o', program)
+        run('rustc', '--edition', '2021', '-D', 'warnings', '--extern', f'oatcastle={OUT / "liboatcastle.rlib"}', '-L', 'native=crates/oatcastle/out', source, '-o', program)
     return program
 
 
@@ -207,7 +207,7 @@ def planted(found, cases):
 def main():
     made(LIBRARY, REPLAY)
     OUT.mkdir(parents=True, exist_ok=True)
-    run('rustc', '--edition', '2021', '-O', '--crate-type', 'rlib', '--crate-name', 'oatcastle', '--out-dir', OUT, 'bindings/rust/src/lib.rs', '-L', 'native=target/staticlib',
+    run('rustc', '--edition', '2021', '-O', '--crate-type', 'rlib', '--crate-name', 'oatcastle', '--out-dir', OUT, 'bindings/rust/src/lib.rs', '-L', 'native=crates/oatcastle/out',
         '-l', 'static=oatcastle')
     cases = {'hear': heard(), 'ping': heard(), 'serve': served(), 'main': given()}
     found = list(snippets())

@@ -2,12 +2,12 @@
 """Holds what is claimed to its form:
 - specs/ of a crate has definitions and statements alone: no law, no proof text, no import of proofs/;
 - a file of statements (Demand.., Item.., BothEnds) has records of statements, and proofs/ exactly one element of each, with a proof for each field;
-- every name that docs/CLAIMS.md gives exists, and every name with a capital inside (`takePromise`) that another document gives;
-- each row of `did`, of `localRow` and of `mainDid` cites the definition, with the arguments, of the first `ensures` of the call that it
+- every name that docs/CLAIMS.md gives exists, and every name in snake case (`take_promise`) that another document gives;
+- each row of `did`, of `local_row` and of `main_did` cites the definition, with the arguments, of the first `ensures` of the call that it
   stands for.
   These are in specs/Histories and specs/LocalCalls of supervisor_claims, and in specs/Histories of requester_claims.
-  A row of `localRow` cites all that this definition settles, and may change the part that it leaves, else nothing;
-- a public function of a library that hands out a part of lent bytes has an `ensures` on where it begins (`.ptr`).
+  A row of `local_row` cites all that this definition settles, and may change the part that it leaves, else nothing;
+- a public function of a library that hands out a part of lent bytes has an `ensures` on where it begins (`.ref_ptr`).
 Assumes the sources as `rt fmt` lays them out (docs/sources.py).
 
 usage: tests/statements.py            prints what is wrong, or how much was compared
@@ -25,10 +25,12 @@ CLAIMS = ROOT / 'docs' / 'CLAIMS.md'
 # the other documents that give names; CHANGES has those of its time
 DOCUMENTS = ('README.md', *(f'docs/{name}.md' for name in ('PROMISES', 'DECISIONS', 'DEVELOPING', 'STATE', 'CHECKSUM', 'FIRMWARE', 'BOTH_ENDS', 'PASSPHRASE')))
 STATEMENTS = re.compile(r'^(Demand\d+|Item\d+|BothEnds|Claims)$')
+# names in snake case of other languages
+OTHERS = {'size_t', 'find_package', 'non_exhaustive'}
 # words of a proof, which no definition has
-PROOF = re.compile(r'(?<![\w.-])(rw|simp|omega|cc|refl|absurd|search|unfolding)(?![\w-])')
+PROOF = re.compile(r'(?<![\w.-])(rw|simp|omega|cc|refl|absurd|search|unfolding|grind|subst)(?![\w-])')
 # the definitions that have a row for each call: module and name
-DID = {'supervisor_claims': [('Histories', 'did'), ('LocalCalls', 'localRow')], 'requester_claims': [('Histories', 'mainDid')]}
+DID = {'supervisor_claims': [('Histories', 'did'), ('LocalCalls', 'local_row')], 'requester_claims': [('Histories', 'main_did')]}
 # each call of these: the public functions that it stands for, and the names that their parameters have in the row
 ROWS = {
     'supervisor_claims': {
@@ -37,12 +39,12 @@ ROWS = {
         'step': (['responder::receive::step'], {}),
         'take': (['supervisor::outbox::take'], {}),
         'post': (['supervisor::alerts::post'], {}),
-        'setOptions': (['supervisor::options::set_options'], {}),
+        'set_options': (['supervisor::options::set_options'], {}),
         'lookup': (['supervisor::keys::lookup_result', 'supervisor::keys::lookup'], {}),
         'edition': (['supervisor::keys::edition'], {}),
         'signal': (['supervisor::registers::signal'], {}),
         'flags': (['supervisor::registers::flags'], {}),
-        'readRecord': (['supervisor::registers::record', 'supervisor::registers::record_bytes'], {'kind': 'k'}),
+        'read_record': (['supervisor::registers::record', 'supervisor::registers::record_bytes'], {'kind': 'k'}),
         'save': (['saving::save::save'], {'out': 'room'}),
         'restore': (['saving::restore::restore'], {}),
     },
@@ -71,7 +73,7 @@ def laws_in_specs(found):
         for number, line in enumerate(file.bare, 1):
             if PROOF.search(line) and not sources.USE.match(line.rstrip()):
                 yield f'{file.path.relative_to(ROOT)}:{number}: proof text in specs/: {line.strip()}'
-            if re.match(r'^(pub )?use Rattle·\w+(·proofs)?\.proofs\b', line):
+            if re.match(r'^(pub )?use Rattle\.\w+\.proofs\b', line) and sources.canonical(line.split('use ', 1)[1]):
                 yield f'{file.path.relative_to(ROOT)}:{number}: specs/ names proofs/'
 
 
@@ -106,7 +108,8 @@ def record_faults(found):
 # ---- Names of CLAIMS.md
 
 def known_names(found):
-    """Names that a document may give: of specs/, of public laws, of functions and types in Rattle, of C functions, crates, modules and edits."""
+    """Names that a document may give: of specs/, of public laws, of functions and types in Rattle, of C functions and structs, of the wrapper's
+    functions, of crates, modules and edits."""
     items = [item for item in found.items() if item.public or item.module.split('.')[1] == 'specs']
     names = {name for item in items for name in [item.name, *item.inner]}
     names |= {name for item in items if item.kind == 'record' for name in re.findall(r'^ +(?:pub )?([^\s:]+) :', item.told, re.M)}
@@ -115,8 +118,9 @@ def known_names(found):
         if file.path.suffix == '.rt':
             names |= set(re.findall(r'\b(?:fn|struct|enum|const|mod) (\w+)', '\n'.join(file.bare)))
     names |= {path.stem for path in [*ROOT.glob('crates/*/must-fail/*.edit'), *ROOT.glob('tests/mutants/*/*.edit')]}
-    names |= set(re.findall(r'\boatcastle_\w+', (ROOT / 'include' / 'oatcastle.h').read_text()))
-    return names | {'ensures', 'requires', 'rt'}
+    names |= {name for header in ROOT.glob('include/*.h') for name in re.findall(r'\boatcastle_\w+', header.read_text())}
+    names |= {name for path in ROOT.glob('bindings/rust/src/*.rs') for name in re.findall(r'\bfn (\w+)', path.read_text())}
+    return names | OTHERS | {'ensures', 'requires', 'rt'}
 
 
 def unknown_names(found, text):
@@ -129,11 +133,11 @@ def unknown_names(found, text):
 
 
 def unknown_words(found, documents):
-    """Of other documents, the names with a capital inside, as definitions have them."""
+    """Of other documents, the names in snake case, as definitions have them; of a word with a capital inside there is none."""
     known = known_names(found)
     for path, text in documents.items():
         for number, line in enumerate(text.split('\n'), 1):
-            for name in re.findall(r'`([a-z]+[A-Z]\w*)`', line):
+            for name in re.findall(r'`([a-z]+[A-Z]\w*|[a-z][a-z\d]*_\w+)`', line):
                 if name not in known:
                     yield f'{path}:{number}: nothing is named {name}'
 
@@ -141,22 +145,22 @@ def unknown_words(found, documents):
 # ---- Rows of calls
 
 def plain(words):
-    """A call's text with the lent bytes by their names: (now (room .entry)) and (p .room) as room, the parts of one end as p."""
-    text = re.sub(r'\(now \((\S+) \.entry\)\)', r'\1', words)
-    text = re.sub(r'\(p \.(\w+)\)', r'\1', text)
-    return re.sub(r'\((?:p|mainP)arts [^()]*\)', 'p', text).split()
+    """A call's text with the lent bytes by their names: room.now, room.old and p.room as room, the parts of one end as p."""
+    text = re.sub(r'(\S+)\.(?:now|old)(?![\w.])', r'\1', words)
+    text = re.sub(r'(?<![\w.])p\.(\w+)', r'\1', text)
+    return re.sub(r'\((?:main_)?parts [^()]*\)', 'p', text).split()
 
 
 def promised(found, path, names):
     """The right side of a function's first `ensures`: the definition that it cites, and its arguments."""
     item = dict(reading.promises(found))[path]
-    words = plain(item.told.split(' ≡ ')[1].split('⌝')[0])
+    words = plain(item.told.split('\n')[0].split(' ≡ ')[1])
     return found.resolved(found.files[item.module], words[0]), [names.get(word, word) for word in words[1:]]
 
 
 def row_calls(found, file, row):
     """The calls of definitions of the promises in a row: every name behind a module of Calls or Receive that takes arguments."""
-    for match in re.finditer(r'(?<![\w.])([A-Z]\w*\.[a-z]\w*)((?: (?:[^\s()]+|\(p \.\w+\)))*)', row):
+    for match in re.finditer(r'(?<![\w.])([A-Z]\w*\.[a-z]\w*)((?: [^\s()]+)*)', row):
         yield found.resolved(file, match.group(1)), plain(match.group(2).split(' in ')[0])
 
 
@@ -194,10 +198,10 @@ def row_faults(found, count):
             count[0] += len(wanted)
             if list(row_calls(found, file, promise)) != wanted:
                 yield f'{did.place}: the row {call} of {did.name} is not what {" and ".join(functions)} promise'
-            if did.name != 'localRow':
+            if did.name != 'local_row':
                 continue
             given = [name for definition, _ in wanted for name in settled(found, definition)]
-            yield from (f'{did.place}: the row {call} of {did.name} leaves {name} out' for name in given if not re.search(rf'\((?!p )\w+ \.{name}\)', promise))
+            yield from (f'{did.place}: the row {call} of {did.name} leaves {name} out' for name in given if not re.search(rf'(?<![\w.])(?!p\.)\w+\.{name}(?![\w.-])', promise))
             changes = [name for name in given if name in ('outbox', 'settings', 'registers')] or ['nothing']
             if re.match(r'Change\.(\w+)', field_of(row, 'change')).group(1) not in changes:
                 yield f'{did.place}: the row {call} of {did.name} may change another part than its promise leaves'
@@ -209,7 +213,7 @@ def parts_without_place(found):
     for module, file in found.files.items():
         if file.path.suffix == '.rt' and (ROOT / 'crates' / module.split('.')[0] / 'src' / 'lib.rt').exists():
             for name, line, contract in reading.functions(file):
-                if re.search(r'\) -> [^\n]*&', contract) and 'r .ptr ≡ ' not in contract:
+                if re.search(r'\) -> [^\n]*&', contract) and 'result.ref_ptr ≡ ' not in contract:
                     yield f'{file.path.relative_to(ROOT)}:{line}: {name} hands out a part and does not say where it begins'
 
 
@@ -235,21 +239,24 @@ def planted():
         sys.exit('statements: there are faults that nobody planted')
     table = 'supervisor_claims.specs.LocalCalls'
     mistakes = {
-        'a field with no proof': (changed(found, 'line_claims.specs.Demand3', '  pub cut : LineCut\n', '  pub cut : LineCut\n  pub cut-twice : LineCut\n'), text),
+        'a field with no proof': (changed(found, 'line_claims.specs.Demand3', '  pub cut : LineCut\n', '  pub cut : LineCut\n  pub cut_twice : LineCut\n'), text),
         'a record with no element': (changed(found, 'line_claims.proofs.Proved', 'pub item-12 : LineItem12', 'pub item-12 : LineItem6'), text),
         'a law in specs': (changed(found, 'line_claims.specs.Loans', '-- at most one', 'pub same : (n : ℕ) → ℕ\nsame n = n\n\n-- at most one'), text),
         'proof text in specs': (changed(found, 'line_claims.specs.Loans', 'fewer published n = min', 'fewer published n = rw min'), text),
-        'specs that name proofs': (changed(found, 'line_claims.specs.Loans', 'use lib.Dec.{leb}', 'use lib.Dec.{leb}\nuse Rattle·octets.proofs.Each.{each-take}'), text),
-        'a name misspelt': (found, text.replace('`hands-out`', '`hand-out`', 1)),
-        'rows exchanged': (changed(found, table, 'Calls.postPromise (p .registers) action text', 'Calls.optionsPromise (p .registers) action'), text),
-        'arguments of a row exchanged': (changed(found, table, 'Calls.lookupResultPromise (p .factory) (p .settings)', 'Calls.lookupResultPromise (p .settings) (p .factory)'), text),
-        'a row of did exchanged': (changed(found, 'supervisor_claims.specs.Histories', 'Receive.receivePromise image p piece', 'Receive.stepPromise image p piece'), text),
-        'a row that leaves out what is settled': (changed(found, table, '(t .room) (t .outbox)', '(t .room) []'), text),
+        'specs that name proofs': (changed(found, 'line_claims.specs.Loans', 'use Rattle.octets.specs.Bytes.', 'use Rattle.octets.proofs.Each.{each-take}\nuse Rattle.octets.specs.Bytes.'), text),
+        'a name misspelt': (found, text.replace('`hands_out`', '`hand_outs`', 1)),
+        'rows exchanged': (changed(found, table, 'Calls.post_promise p.registers action text', 'Calls.options_promise p.registers action'), text),
+        'arguments of a row exchanged': (changed(found, table, 'Calls.lookup_result_promise p.factory p.settings', 'Calls.lookup_result_promise p.settings p.factory'), text),
+        'a row of did exchanged': (changed(found, 'supervisor_claims.specs.Histories', 'Receive.receive_promise image p piece', 'Receive.step_promise image p piece'), text),
+        'a row that leaves out what is settled': (changed(found, table, 't.room t.outbox', 't.room []'), text),
         'a row with another change': (changed(found, table, 'change = Change.settings image', 'change = Change.nothing'), text),
-        'a part without its place': (changed(found, 'supervisor.src.keys', 'r .ptr ≡ lookupPlace', 'now r ≡ lookupPlace'), text),
+        'a part without its place': (changed(found, 'supervisor.src.keys', 'result.ref_ptr ≡ lookup_place', 'result.now ≡ lookup_place'), text),
     }
     missed = [name for name, (sources_then, text_then) in mistakes.items() if not faults(sources_then, text_then, [0])]
-    misspelt = {'docs/PROMISES.md': (ROOT / 'docs/PROMISES.md').read_text().replace('`takePromise`', '`takesPromise`', 1)}
+    older = {'docs/PROMISES.md': (ROOT / 'docs/PROMISES.md').read_text().replace('`take_promise`', '`takePromise`', 1)}
+    mistakes['a name with a capital inside in another document'] = None
+    missed += [] if faults(found, text, [0], older) else ['a name with a capital inside in another document']
+    misspelt = {'docs/PROMISES.md': (ROOT / 'docs/PROMISES.md').read_text().replace('`take_promise`', '`takes_promise`', 1)}
     mistakes['a name misspelt in another document'] = None
     missed += [] if faults(found, text, [0], misspelt) else ['a name misspelt in another document']
     for name in missed:

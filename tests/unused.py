@@ -12,16 +12,20 @@ import sys
 from collections import Counter
 
 ROOT = pathlib.Path(__file__).resolve().parent.parent
+sys.path.insert(0, str(ROOT / 'docs'))
+import sources  # noqa: E402
+
 # what parts words: blanks, brackets, and the punctuation of both languages
-BREAKS = re.compile(r'(?:[\s(){}\[\],;.λ⌜⌝"]|::|(?<!&)&(?!&)|<\'a>)+')
+BREAKS = re.compile(r'(?:[\s(){}\[\],;.λ"]|::|(?<!&)&(?!&)|<\'a>)+')
 # names that are signs, as words
 SIGNS = {'[]': 'nil-sign', '!': 'bang-sign'}
-USE = re.compile(r'^(ghost )?use ([^;{\n]+?)(?:\.\{([^}\n]*)\})?;?$', re.M)
+USE = re.compile(r'^(ghost )?use ([^;{\n]+?)(?:(?:\.|::)\{([^}]*)\})?;?$', re.M)
 HEAD = re.compile(r'^( *)(?:abbrev |unfoldable |pub )*([^\s(){}:=]+) :(?= )', re.M)
 # a record's fields are used where it is
 RECORD = re.compile(r'^( *)(?:pub )?record .*(?:\n\1    .*)*?where\n(?:\1  .*\n)*', re.M)
-# what a proof's tie to its function, or the language, looks up by its name
-BY_NAME = re.compile(r'^(.*-spec|Inv-.*|μ-.*)$')
+# what the kit looks up by its name: an answer to a goal, an invariant or a measure of a loop
+BY_NAME = re.compile(r'^ *(?:abbrev |unfoldable |pub )*(\S+) : goal\.\1$', re.M)
+PROOFS = ('Answers.antt', 'Invariants.antt')
 
 
 def uncommented(text):
@@ -36,10 +40,10 @@ def words(text):
 
 
 def pieces(name):
-    """What an operator's name is written as: _+_ as +, a name as itself."""
+    """What an operator's name is written as: ◌+◌ as +, a name as itself."""
     if name in SIGNS:
         return [SIGNS[name]]
-    return [piece for piece in name.split('_') if piece] if name.startswith('_') or name.endswith('_') else [name]
+    return [piece for piece in name.split('◌') if piece]
 
 
 def names_of(listed):
@@ -55,13 +59,13 @@ def spoken(item, path):
 
 def unused_imports(path, text):
     """The imports of a file that it does not use: (the whole line, the item or None)."""
-    body = words(USE.sub('', uncommented(text)))
+    body = words(without_uses(text))
     for match in USE.finditer(text):
         module, listed = match.group(2), match.group(3)
         if path.suffix == '.rt' and not match.group(1):
             module = module.replace('::', '.')
         if listed is None:
-            name = spoken(module, path).split('.')[-1].split('·')[-1]
+            name = spoken(module, path).split('.')[-1]
             if not all(body[piece] for piece in pieces(name)):
                 yield match.group(0), None
             continue
@@ -86,24 +90,25 @@ def repaired(text, found):
     return text
 
 
-def crate_files():
-    return sorted(path for path in (ROOT / 'crates').rglob('*') if path.suffix in ('.antt', '.rt') and 'target' not in path.parts)
+def without_uses(text):
+    return USE.sub('', uncommented(text))
 
 
 def uncited(texts):
     """The names that stand at the head of a definition or a law, and nowhere else."""
     everywhere = Counter()
     for text in texts.values():
-        everywhere += words(USE.sub('', uncommented(text)))
+        everywhere += words(without_uses(text))
     documents = words(' '.join(path.read_text() for path in (ROOT / 'docs').glob('*.md')).replace('`', ' '))
     for path, text in texts.items():
         # an element of a record of statements is there for readers
         if path.suffix != '.antt' or path.name == 'Proved.antt':
             continue
         bare = uncommented(text)
+        by_name = set(BY_NAME.findall(bare)) if path.name in PROOFS else set()
         for match in HEAD.finditer(RECORD.sub('', bare)):
             name = match.group(2)
-            if BY_NAME.match(name) or name in ('use', 'record', 'data', 'let', 'in', 'where'):
+            if name in by_name or name in ('use', 'record', 'data', 'let', 'in', 'where'):
                 continue
             own = len(re.findall('^' + match.group(1) + r'(?:abbrev |unfoldable |pub )*' + re.escape(name) + r'(?= |$)', bare, re.M))
             if all(everywhere[piece] <= own for piece in pieces(name)) and not all(documents[piece] for piece in pieces(name)):
@@ -114,7 +119,7 @@ def main():
     fix = sys.argv[1:] == ['fix']
     if sys.argv[1:] and not fix:
         sys.exit(__doc__)
-    texts = {path: path.read_text() for path in crate_files()}
+    texts = {path: path.read_text() for path in sources.crate_files()}
     wrong = []
     for path, text in texts.items():
         found = [] if re.search(r'^pub use|^pub mod', text, re.M) and path.name == 'Lib.antt' else list(unused_imports(path, text))

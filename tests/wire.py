@@ -3,7 +3,7 @@
 the page's own offsets, widths and numbers, and from values of this program. tests/wire/driver.c makes the calls.
 The comments of include/oatcastle.h at the wire's constants are compared with the rows. Columns for readers alone have no number and are compared there alone.
 Then each number, byte and word of the tables and each of these comments is changed in turn, in memory alone, and must be seen.
-Assumes target/staticlib/liboatcastle.a and a C compiler. Ends with 1 at the first difference.
+Assumes crates/oatcastle/out/liboatcastle.a and a C compiler. Ends with 1 at the first difference.
 
 usage: tests/wire.py"""
 import collections

@@ -6,8 +6,8 @@ use std::path::{Path, PathBuf};
 
 /// Of each target its name, the folder of its archive in a release and in this repository, and the command that makes it.
 const ARCHIVES: [(&str, &str, &str, &str); 9] = [
-    ("x86_64-unknown-linux-gnu", "lib/x86_64-linux", "target/staticlib", "rt staticlib oatcastle"),
-    ("x86_64-unknown-linux-musl", "lib/x86_64-linux", "target/staticlib", "rt staticlib oatcastle"),
+    ("x86_64-unknown-linux-gnu", "lib/x86_64-linux", "crates/oatcastle/out", "cd crates/oatcastle && rt lib --cpu x86-64"),
+    ("x86_64-unknown-linux-musl", "lib/x86_64-linux", "crates/oatcastle/out", "cd crates/oatcastle && rt lib --cpu x86-64"),
     ("aarch64-unknown-linux-gnu", "lib/aarch64-linux", "target/cross/aarch64-O2", "cross/build aarch64-O2"),
     ("thumbv6m-none-eabi", "lib/cortex-m0", "target/cross/thumbv6m-Os", "cross/build thumbv6m-Os"),
     ("thumbv7em-none-eabi", "lib/cortex-m4", "target/cross/thumbv7em-Os", "cross/build thumbv7em-Os"),

@@ -5,7 +5,7 @@
 - over a wire that loses and damages bytes, with either end killed at random and started again, each lookup gives what was set last. A set
   whose answer the killed end did not print may have been carried out or not.
 Then each mistake of MISTAKES is put into a program, and must be seen.
-Assumes Linux, cc, rustc and target/staticlib/liboatcastle.a.
+Assumes Linux, cc, rustc and crates/oatcastle/out/liboatcastle.a.
 
 usage: tests/devices/run.py [SECONDS [SEED]]      how long each pair is killed, and how; 1 and 1 without"""
 import os
@@ -76,7 +76,7 @@ def run(*words):
 
 
 def rustc(*words):
-    run('rustc', '--edition', '2021', '-L', 'native=target/staticlib', *words)
+    run('rustc', '--edition', '2021', '-L', 'native=crates/oatcastle/out', *words)
 
 
 def compiled(language, end, sources, out):
