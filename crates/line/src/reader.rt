@@ -11,7 +11,8 @@ ghost use Rattle.line.specs.Judge.{judge_form};
 ghost use Rattle.line.specs.ReaderLayout.{frame_offset, overlong, received_count, with_count};
 ghost use Rattle.line.specs.Reader.{reader_length, valid_reader, read_report};
 ghost use Rattle.line.specs.Reader.{verdict_report, pushed_all, frame_outcome, finish_form, finish, read_outcome, read_promise};
-ghost use Rattle.line.specs.Reader.{collect_outcome, collect_promise, reader_start_outcome, reader_start_promise, tail_report, tail_promise};
+ghost use Rattle.line.specs.Reader.{collect_outcome, collect_promise, reader_start_outcome, reader_start_promise, tail_report};
+ghost use Rattle.line.specs.Reader.{tail_promise};
 ghost use Rattle.line.specs.Reader.{data_report, data_given_promise, data_promise, data_place};
 
 use crate::cobs::Measured;
