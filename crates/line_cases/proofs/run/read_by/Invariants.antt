@@ -7,7 +7,7 @@ use lib.ListN.{length}
 use Rattle.line_cases.proofs.run.read_by.Given as goal
 
 abbrev pub invariant-loop-most : goal.invariant-loop-most
-invariant-loop-most l = (l.at ≤ length l.piece) × (length l.state ≡ length l.initial.state)
+invariant-loop-most g l = (l.at ≤ length l.piece) × (length l.state ≡ length l.initial.state)
 
 abbrev pub decreases-loop-most : goal.decreases-loop-most
-decreases-loop-most l = length l.piece - l.at
+decreases-loop-most g l = length l.piece - l.at

@@ -7,8 +7,8 @@ use lib.ListN.{length}
 use Rattle.requester_cases.proofs.run.receive_by.Given as goal
 
 abbrev pub invariant-loop-most : goal.invariant-loop-most
-invariant-loop-most l =
+invariant-loop-most g l =
     (l.at ≤ length l.piece) × (length l.reader ≡ length l.initial.reader) × (length l.requester ≡ length l.initial.requester)
 
 abbrev pub decreases-loop-most : goal.decreases-loop-most
-decreases-loop-most l = length l.piece - l.at
+decreases-loop-most g l = length l.piece - l.at
