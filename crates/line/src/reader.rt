@@ -45,7 +45,7 @@ pub struct Head {
 }
 
 // What a call of `read` answers; `read_report` in specs/Reader.antt gives document 01's numbers and values.
-#[derive(Drop)]
+#[derive(Clone, Copy)]
 pub enum Answer {
     Refused,
     More,
@@ -58,28 +58,28 @@ pub enum Answer {
 }
 
 // How many bytes of the piece a call of `read` read, and what it says.
-#[derive(Drop)]
+#[derive(Clone, Copy)]
 pub struct Reading {
     pub used: usize,
     pub answer: Answer,
 }
 
 // What a call of `collect` answers.
-#[derive(Drop)]
+#[derive(Clone, Copy)]
 pub enum Collected {
     Refused,
     Bytes(usize),
 }
 
 // What a call of `start` answers.
-#[derive(Drop)]
+#[derive(Clone, Copy)]
 pub enum Started {
     Done,
     Refused,
 }
 
 // What a call of `tail` answers.
-#[derive(Drop)]
+#[derive(Clone, Copy)]
 pub enum Unfinished {
     Refused,
     Bytes(usize),
@@ -87,7 +87,7 @@ pub enum Unfinished {
 }
 
 // What a call of `message_data_given` answers.
-#[derive(Drop)]
+#[derive(Clone, Copy)]
 pub enum Handed {
     Given,
     TooLong,
