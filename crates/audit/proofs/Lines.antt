@@ -12,7 +12,9 @@ use Rattle.octets.specs.Bytes.{run, overlay, copied}
 use Rattle.octets.proofs.Overlay.{copied-fits}
 use Rattle.line.specs.Judge.{judge}
 use Rattle.plain.specs.Listing.{ListedFrame, Listing, listed_frame, listing}
-use Rattle.plain.specs.Answers.{NextReport, piece_at, plain_verdict}
+use Rattle.plain.specs.Answers.{NextReport, next_report, piece_at, plain_verdict}
+use Rattle.plain.specs.declared.Piece.{Piece}
+use Rattle.plain.specs.declared.Piece.TheVariants.{Frame, Tail}
 use Rattle.plain.specs.declared.Answer.{Answer}
 use Rattle.plain.specs.declared.Answer.TheVariants.{Message, BadForm, BadLength, BadChecksum, BadMagic}
 use Rattle.plain.proofs.Steps.{listed_from, added, at-frame, at_tail}
@@ -59,6 +61,15 @@ pub frame-line : (at : ℕ) (p : List ℕ) (a : Answer) (m : List ℕ) → 0 < l
 unfolding lines line listed_frame
 frame-line at [] a m h e = absurd (omega arith)
 frame-line at (b ∷ bs) a m h e = rw (append-nil, ← e, word-any a m)
+
+-- what `plain::next` found at an offset
+pub frame-found : (w : List ℕ) (at : ℕ) {n : ℕ} {p : Piece} → p ≡ Frame n → next_report p ≡ piece_at w at → NextReport.frame n ≡ piece_at w at
+unfolding next_report
+frame-found w at e f = ap next_report (sym e) ∙ f
+
+pub tail-found : (w : List ℕ) (at : ℕ) {n : ℕ} {p : Piece} → p ≡ Tail n → next_report p ≡ piece_at w at → NextReport.tail n ≡ piece_at w at
+unfolding next_report
+tail-found w at e f = ap next_report (sym e) ∙ f
 
 -- ---- a listing
 

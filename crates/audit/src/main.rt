@@ -1,8 +1,9 @@
 // The audit program of document 02: reads a capture from standard input and writes the plain reader's listing of it as lines of text.
-// Assumes nothing: output that cannot be written is lost.
+// Assumes nothing: a read or a write that fails ends the program with its error.
 #![tactic(auto)]
 
-ghost use Rattle.std.specs.Prelude.{◌∷◌, ◌++◌, [], ◌+◌, ◌*◌, ◌≤◌, length};
+ghost use Rattle.std.specs.Prelude.{◌≡◌, ◌∷◌, ◌++◌, [], ◌+◌, ◌*◌, ◌≤◌, IfOk, IfSome, OnOk, length, take};
+ghost use Rattle.std.specs.Io.KnownBytes.{Appends};
 ghost use Rattle.octets.specs.Bytes.{run};
 ghost use Rattle.plain.specs.Listing.{listed_frame, listing};
 ghost use Rattle.plain.specs.Answers.{plain_verdict};
@@ -10,22 +11,50 @@ ghost use Rattle.audit.specs.Text.{longest_capture, text_room, decimal, word, li
 ghost use Rattle.audit.specs.Text.{Wrote};
 
 use plain::{Answer, Piece};
-
-const INPUT: i32 = 0;
-
-const OUTPUT: i32 = 1;
+use std::io::{Read, Write};
 
 const LONGEST_CAPTURE: usize = 65536;
 
 const TEXT_ROOM: usize = 5 * LONGEST_CAPTURE + 11;
 
-// All input is read before anything is written, and one byte more than the longest capture.
-fn main() {
-    let mut input = [0u8; LONGEST_CAPTURE + 1];
-    let n = io::read_full(INPUT, &mut input);
+fn main(rt: HostRuntime) -> std::io::Result<()> {
+    let mut room = [0u8; LONGEST_CAPTURE + 1];
     let mut text = [0u8; TEXT_ROOM];
-    let k = audit(&input[..n], &mut text);
-    io::write_all(OUTPUT, &text[..k]);
+    audit_input(&mut rt.stdin(), &mut rt.stdout(), &mut room, &mut text)
+}
+
+// All input is read before anything is written, and one byte more than the longest capture.
+fn audit_input<R: Read, W: Write>(
+    input: &mut R,
+    output: &mut W,
+    room: &mut [u8; LONGEST_CAPTURE + 1],
+    text: &mut [u8],
+) -> std::io::Result<()>
+    requires { text_room ≤ length text.old }
+    ensures { OnOk result (IfSome (R.remaining input.old)
+        (λ capture. Appends (W.contents output.old) (W.contents output.new) (audit_of capture))) }
+{
+    let n = read_full(input, room)?;
+    let k = audit(&room[..n], text);
+    output.write_all(&text[..k])?;
+    Ok(())
+}
+
+// Reads until the room is full or the input ends; how many bytes it put at the room's start.
+fn read_full<R: Read>(input: &mut R, room: &mut [u8]) -> std::io::Result<usize>
+    ensures count { IfOk result (λ n. n ≤ length room.new) }
+    ensures bytes { IfOk result (λ n. IfSome (R.remaining input.old)
+        (λ xs. take n room.new ≡ take (length room.old) xs)) }
+{
+    let mut done = 0;
+    while done < room.len() {
+        let got = input.read(&mut room[done..])?;
+        if got == 0 {
+            return Ok(done);
+        }
+        done += got;
+    }
+    Ok(done)
 }
 
 // The program's text for a capture, at the start of text; how many bytes it has.

@@ -331,7 +331,7 @@ list_not_older n k b begins ts us t u w on =
     let e = ends_after_all b ts in
     let P = NotOlder k e in
     let both = (any-calls (λ x. Unit {0}) (λ x b i y typed. tt) b (begun-both b begins) tt ts t).0 in
-    always-so _ (ValueAgainst e k (ValueNotOlder e)) n
+    always-so (ValueAgainst e k (ValueKnown e (EachSet k P) (sets-fewer k P))) (ValueAgainst e k (ValueNotOlder e)) n
     (λ x l r a most key i q new. any-then _ _ (λ h v. value-not-older k e x.newest most r h v) l.handled (a most key i q new)) e us
     (against e (EachSet k P) (sets-fewer k P) n k b begins ts refl (no-set k P) t w us u (stays_of e us on.goes_on) on.wire
     (known-calls k e e both (first_read e) us u on.goes_on on.sets))

@@ -392,6 +392,6 @@ nothing_known e₀ e (t ∷ ts) = (λ fs f. tt, nothing_known e₀ (ends_after e
 pub not_replaced : NotReplaced
 not_replaced n k b begins ts us t u w stays v =
     let e = ends_after_all b ts in
-    always-so _ (ValueAgainst e k (ValueSince e)) n
+    always-so (ValueAgainst e k (ValueKnown e (λ fs. Unit {0}) (λ fs gs i. tt))) (ValueAgainst e k (ValueSince e)) n
     (λ x l r a most key i o new. any-then _ _ (λ h v. v.0) l.handled (a most key i o new)) e us
     (against e (λ fs. Unit {0}) (λ fs gs i. tt) n k b begins ts refl tt t w us u stays v (nothing_known e e us))

@@ -151,6 +151,6 @@ pub never_replaced : NeverReplaced
 never_replaced n k b begins ts us t u on more =
     let e = ends_after_all b ts in
     let now = moment k b begins ts t on.goes_on on.sets in
-    always-so _ (ValueAgainst e k (ValueNewer e)) n
+    always-so (ValueAgainst e k (ValueNotOlder e)) (ValueAgainst e k (ValueNewer e)) n
     (λ x l r a most key i q new. any-then _ _ (value-newer k b e now key.key x.newest most r) l.handled (a most key i q new)) e us
     (list_not_older n k b begins ts us t u on.wire more)

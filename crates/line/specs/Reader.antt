@@ -6,7 +6,6 @@ use Rattle.octets.specs.Bytes.{run, overlay}
 use Rattle.octets.specs.Places.{LentBytes, Place, place_in}
 use Rattle.line.specs.Limits.{longest_data, longest_form}
 use Rattle.line.specs.Numbers.{reason_form, reason_checksum, reason_length, reason_magic}
-use Rattle.line.specs.Message.{Message}
 use Rattle.line.specs.Cobs.{uncobs}
 use Rattle.line.specs.Judge.{LineVerdict, failure, good, judge, judge_received, decoded_received}
 use Rattle.line.specs.ReaderLayout.{overlong, received_count, with_count, received_bytes, with_byte, unpacked, data_offset}

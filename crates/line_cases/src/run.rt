@@ -2,6 +2,7 @@
 // Assumes nothing: a command whose counts do not fit does nothing.
 use crate::print;
 use line::{reader, sums, writer};
+use std::io;
 use text_lines::{fields, pieces, streams};
 
 const STATE_ROOM: usize = 4200;
@@ -36,29 +37,29 @@ pub(crate) fn fresh() -> Case {
 }
 
 // One line.
-pub(crate) fn command(line: &[u8], now: Case) -> Case {
+pub(crate) fn command(rt: &impl Print, line: &[u8], now: Case) -> io::Result<Case> {
     let key = fields::key(line);
     match key {
-        b'=' => begin(line),
-        b'+' | b'*' => add(line, now),
-        b'w' => write(line, now),
-        b'r' | b'c' | b'b' | b'a' | b'o' | b'k' => use_up(line, key, now),
-        b'l' | b'e' | b's' | b'i' => change(line, key, now),
+        b'=' => begin(rt, line),
+        b'+' | b'*' => Ok(add(line, now)),
+        b'w' => write(rt, line, now),
+        b'r' | b'c' | b'b' | b'a' | b'o' | b'k' => use_up(rt, line, key, now),
+        b'l' | b'e' | b's' | b'i' => change(rt, line, key, now),
         _ => {
-            look(key, fields::count(line, 1), &now.state);
-            now
+            look(rt, key, fields::count(line, 1), &now.state)?;
+            Ok(now)
         }
     }
 }
 
 // A fresh case, with its name and a reader.
-fn begin(line: &[u8]) -> Case {
-    streams::name(line);
+fn begin(rt: &impl Print, line: &[u8]) -> io::Result<Case> {
+    streams::name(rt, line)?;
     let mut next = fresh();
     let mut state = next.state;
     reader::start(&mut state);
     next.state = state;
-    next
+    Ok(next)
 }
 
 fn add(line: &[u8], now: Case) -> Case {
@@ -71,156 +72,169 @@ fn add(line: &[u8], now: Case) -> Case {
 }
 
 // A message with the piece as its data, by the line's fields.
-fn write(line: &[u8], now: Case) -> Case {
+fn write(rt: &impl Print, line: &[u8], now: Case) -> io::Result<Case> {
     let mut next = now;
     let piece = now.piece;
     let mut out = now.out;
     let data = octets::part(&piece, 0, now.piece_count);
-    let written = write_data(line, data, &mut out);
-    streams::digest(&out);
+    let written = write_data(rt, line, data, &mut out)?;
+    streams::digest(rt, &out)?;
     next.out = out;
     next.written = written;
     next.piece_count = 0;
-    next
+    Ok(next)
 }
 
 // The version, sequence and command are the line's first three fields.
 // The fourth is how many of the data are the first part, and the fifth is the room.
-fn write_data(line: &[u8], data: &[u8], out: &mut [u8]) -> usize {
+fn write_data(rt: &impl Print, line: &[u8], data: &[u8], out: &mut [u8]) -> io::Result<usize> {
     let version = fields::hex_u32(line, 1);
     let sequence = fields::hex(line, 2);
     let command = fields::hex_u8(line, 3);
     let cut = octets::min(fields::count(line, 4), data.len());
     let end = octets::min(fields::count(line, 5), out.len());
-    print::writing(writer::write(
-        version,
-        sequence,
-        command,
-        &data[0..cut],
-        &data[cut..],
-        &mut out[0..end],
-    ))
+    print::writing(
+        rt,
+        writer::write(
+            version,
+            sequence,
+            command,
+            &data[0..cut],
+            &data[cut..],
+            &mut out[0..end],
+        ),
+    )
 }
 
 // A command that empties the piece, or reads what was written.
-fn use_up(line: &[u8], key: u8, now: Case) -> Case {
+fn use_up(rt: &impl Print, line: &[u8], key: u8, now: Case) -> io::Result<Case> {
     let mut next = now;
     let mut state = now.state;
     let piece = now.piece;
     let out = now.out;
     if key == b'o' {
-        read_whole(&mut state, octets::part(&out, 0, now.written));
+        read_whole(rt, &mut state, octets::part(&out, 0, now.written))?;
     } else {
         use_piece(
+            rt,
             line,
             key,
             &mut state,
             octets::part(&piece, 0, now.piece_count),
-        );
+        )?;
     }
     next.state = state;
     next.piece_count = 0;
-    next
+    Ok(next)
 }
 
-fn use_piece(line: &[u8], key: u8, state: &mut [u8], piece: &[u8]) {
+fn use_piece(
+    rt: &impl Print,
+    line: &[u8],
+    key: u8,
+    state: &mut [u8],
+    piece: &[u8],
+) -> io::Result<()> {
     let n = fields::count(line, 1);
     match key {
-        b'k' => streams::hex(sums::checksum(piece) as u64, 4),
-        b'b' => read_by(state, piece, 1),
+        b'k' => streams::hex(rt, sums::checksum(piece) as u64, 4),
+        b'b' => read_by(rt, state, piece, 1),
         b'a' => {
-            let taken = collect_once(state, piece);
-            read_whole(state, octets::part(piece, taken, piece.len()))
+            let taken = collect_once(rt, state, piece)?;
+            read_whole(rt, state, octets::part(piece, taken, piece.len()))
         }
         b'c' => {
-            read_whole(state, octets::part(piece, 0, n));
-            read_whole(state, octets::part(piece, n, piece.len()))
+            read_whole(rt, state, octets::part(piece, 0, n))?;
+            read_whole(rt, state, octets::part(piece, n, piece.len()))
         }
-        _ => read_whole(state, piece),
+        _ => read_whole(rt, state, piece),
     }
 }
 
 // A command that changes the state and leaves the piece.
-fn change(line: &[u8], key: u8, now: Case) -> Case {
+fn change(rt: &impl Print, line: &[u8], key: u8, now: Case) -> io::Result<Case> {
     let mut next = now;
     let mut state = now.state;
     let piece = now.piece;
     let n = fields::count(line, 1);
     match key {
-        b'l' => read_lent(&mut state, n, octets::part(&piece, 0, now.piece_count)),
-        b'e' => collect_lent(&mut state, n, octets::part(&piece, 0, now.piece_count)),
-        b's' => start_lent(&mut state, n),
+        b'l' => read_lent(rt, &mut state, n, octets::part(&piece, 0, now.piece_count))?,
+        b'e' => collect_lent(rt, &mut state, n, octets::part(&piece, 0, now.piece_count))?,
+        b's' => start_lent(rt, &mut state, n)?,
         _ => octets::write_u16(&mut state, 0, fields::decimal_u16(line, 1)),
     }
     next.state = state;
-    next
+    Ok(next)
 }
 
 // One call of read that is lent the first n bytes of the state.
-fn read_lent(state: &mut [u8], n: usize, piece: &[u8]) {
+fn read_lent(rt: &impl Print, state: &mut [u8], n: usize, piece: &[u8]) -> io::Result<()> {
     let end = octets::min(n, state.len());
-    read_once(&mut state[0..end], piece);
+    read_once(rt, &mut state[0..end], piece)?;
+    Ok(())
 }
 
 // One call of collect likewise.
-fn collect_lent(state: &mut [u8], n: usize, piece: &[u8]) {
+fn collect_lent(rt: &impl Print, state: &mut [u8], n: usize, piece: &[u8]) -> io::Result<()> {
     let end = octets::min(n, state.len());
-    collect_once(&mut state[0..end], piece);
+    collect_once(rt, &mut state[0..end], piece)?;
+    Ok(())
 }
 
 // One call of start likewise.
-fn start_lent(state: &mut [u8], n: usize) {
+fn start_lent(rt: &impl Print, state: &mut [u8], n: usize) -> io::Result<()> {
     let end = octets::min(n, state.len());
-    print::starting(reader::start(&mut state[0..end]));
+    print::starting(rt, reader::start(&mut state[0..end]))
 }
 
 // A command that changes nothing.
-fn look(key: u8, n: usize, state: &[u8]) {
+fn look(rt: &impl Print, key: u8, n: usize, state: &[u8]) -> io::Result<()> {
     match key {
-        b't' => print::tail(reader::tail(state)),
-        b'u' => print::tail(reader::tail(octets::part(state, 0, n))),
-        b'd' => hand_out(state, n),
-        b'g' => streams::digest(octets::part(state, 0, reader::STATE_LENGTH)),
-        b'.' => streams::word(b"\n"),
-        _ => {}
+        b't' => print::tail(rt, reader::tail(state)),
+        b'u' => print::tail(rt, reader::tail(octets::part(state, 0, n))),
+        b'd' => hand_out(rt, state, n),
+        b'g' => streams::digest(rt, octets::part(state, 0, reader::STATE_LENGTH)),
+        b'.' => streams::word(rt, b"\n"),
+        _ => Ok(()),
     }
 }
 
-fn hand_out(state: &[u8], n: usize) {
+fn hand_out(rt: &impl Print, state: &[u8], n: usize) -> io::Result<()> {
     print::data(
+        rt,
         reader::message_data_given(state, n),
         reader::message_data(state, n),
-    );
+    )
 }
 
 // One call of read; how many bytes it used.
-fn read_once(state: &mut [u8], piece: &[u8]) -> usize {
+fn read_once(rt: &impl Print, state: &mut [u8], piece: &[u8]) -> io::Result<usize> {
     let r = reader::read(state, piece);
     let used = r.used;
     let answer = r.answer;
-    print::reading(answer, state);
-    used
+    print::reading(rt, answer, state)?;
+    Ok(used)
 }
 
 // One call of collect; how many bytes it took.
-fn collect_once(state: &mut [u8], piece: &[u8]) -> usize {
-    print::collecting(reader::collect(state, piece))
+fn collect_once(rt: &impl Print, state: &mut [u8], piece: &[u8]) -> io::Result<usize> {
+    print::collecting(rt, reader::collect(state, piece))
 }
 
-fn read_whole(state: &mut [u8], piece: &[u8]) {
-    read_by(state, piece, piece.len());
+fn read_whole(rt: &impl Print, state: &mut [u8], piece: &[u8]) -> io::Result<()> {
+    read_by(rt, state, piece, piece.len())
 }
 
 // Calls of read, each with at most so many bytes, until the piece is used up, or one uses nothing.
-fn read_by(state: &mut [u8], piece: &[u8], most: usize) {
+fn read_by(rt: &impl Print, state: &mut [u8], piece: &[u8], most: usize) -> io::Result<()> {
     let mut at = 0;
     loop {
-        let used = read_once(state, octets::part(piece, at, most));
+        let used = read_once(rt, state, octets::part(piece, at, most))?;
         if used == 0 {
-            return;
+            return Ok(());
         }
         if piece.len() - at <= used {
-            return;
+            return Ok(());
         }
         at += used;
     }

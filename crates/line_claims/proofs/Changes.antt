@@ -101,6 +101,7 @@ pub two-weighed : (weight : ℕ → ℕ) (k p : ℕ) (cs : List ℕ) → 1 ≤ k
     → weighed weight cs % 255 ≡ (weight p * get_or cs p 255 + weight (p + k) * get_or cs (p + k) 255) % 255
 unfolding weighed
 two-weighed weight k p [] l h = omega (arith, times (weight p) 255 refl, times (weight (p + k)) 255 refl)
+two-weighed weight zero zero (c ∷ cs) l h = elim l [ ]
 two-weighed weight (suc k) zero (c ∷ cs) l h =
     let r = one-weighed (λ i. weight (suc i)) k cs (λ i u. h (suc i) (λ e. omega arith) (λ e. u (omega arith))) in rw zero-add (omega arith)
 two-weighed weight k (suc p) (c ∷ cs) l h =

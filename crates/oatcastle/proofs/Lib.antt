@@ -4,4 +4,3 @@ mod AnswerLaws
 mod SupervisorLaws
 mod AddressLaws
 mod RequesterLaws
-mod BlockWalks

@@ -1,18 +1,14 @@
 -- The laws of the test of all changes: what it comes to from an offset on, and what one bad change makes of it.
 -- Assumes nothing.
 use mathlib.Core.Path.{◌≡◌, sym, ◌∙◌, ap}
-use mathlib.Core.Bool.{Bool, true, false, ◌&&◌, ◌||◌}
+use mathlib.Core.Bool.{Bool, true, false, ◌&&◌}
 use mathlib.Core.List.{List}
 use Prim.Native.Nat.{ℕ, ◌+◌, ◌≤◌, ◌<◌}
 use lib.ListN.{length, get_or, drop}
 use lib.Dec.{T, eqb, eqb→eq}
-use borrow.Author.Tests.{lt-ltb, le-ltb, eq-eqb, ne_eqb}
+use borrow.Author.Tests.{eq-eqb, ne_eqb}
 use Rattle.probes.specs.Probes.{probe_change, probe_changes, good_change, all_good, good}
 use Rattle.probes.proofs.Changes.{changes-more, changes-end}
-
--- an index at or past the list's length, whatever the result
-pub past-list : (n i r : ℕ) → n ≤ i → false ≡ good_change n (probe_change i r)
-past-list n i r h = sym (ap (λ (b : Bool). b && (eqb r 0 || (eqb r 2 || eqb r 3))) (le-ltb i n h))
 
 module _ (n : ℕ) (is rs : List ℕ) where
   -- ---- As many results as indices
@@ -52,5 +48,3 @@ module _ (n : ℕ) (is rs : List ℕ) where
     pub good-end : length is ≤ i → rest i ≡ true
     unfolding all_good
     good-end h = ap (all_good n) (changes-end is rs i h)
-
-pub ruleset cases = (le-ltb, lt-ltb, eq-eqb, ne_eqb)

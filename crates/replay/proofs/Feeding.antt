@@ -12,7 +12,7 @@ use lib.Dec.{ltb}
 use lib.ListN.{length, take, drop, get_or, length-append, length-drop, drop_of_length-le}
 use lib.Seq.{take-suc, take-add, drop-cons, take_all}
 use Rattle.octets.specs.Bytes.{overlay}
-use Rattle.octets.proofs.Overlay.{length-overlay, overlay-none, overlay-next}
+use Rattle.octets.proofs.Overlay.{length-overlay, overlay-none, overlay-next, overlay-inside}
 use Rattle.octets.proofs.Conditions.{cond-by}
 use Rattle.supervisor.specs.Limits.{most_pending}
 use Rattle.supervisor.specs.Calls.{Parts, parts}
@@ -165,6 +165,7 @@ pub record FedOn (bytes : List ℕ) (p₀ : Parts) (at : ℕ) (r : Fed) (room : 
   pub within : at + r.read ≤ length bytes
   pub fits : r.kept ≤ length room
   pub leaves : q ≡ (replay_bytes [] p₀ (take (at + r.read) bytes)).parts
+  pub adds : (replay_bytes [] p₀ (take (at + r.read) bytes)).taken ≡ (replay_bytes [] p₀ (take at bytes)).taken ++ take r.kept room
 
 module _ (bytes room : List ℕ) {p₀ p q : Parts} {at : ℕ} {s : List ℕ} (r : Fed) (h : at < length bytes) (long : most_pending ≤ length room)
     (e : p ≡ (replay_bytes [] p₀ (take at bytes)).parts) where
@@ -186,4 +187,7 @@ module _ (bytes room : List ℕ) {p₀ p q : Parts} {at : ℕ} {s : List ℕ} (r
         leaves =
             ap (λ (x : FeedOutcome). x.parts) told
             ∙ rw (read, take-add at n bytes, replay-append p₀ (take at bytes) (take n rest), e);
+        adds =
+            let kept_bytes : take r.kept s ≡ c.taken = rw (kept, holds) (overlay-inside 0 c.taken room (omega arith)) in
+            rw (read, take-add at n bytes, replay-append p₀ (take at bytes) (take n rest), kept_bytes, e);
       }

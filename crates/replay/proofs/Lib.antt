@@ -2,3 +2,4 @@
 -- Assumes nothing.
 pub mod Taking
 pub mod Feeding
+pub mod Streaming

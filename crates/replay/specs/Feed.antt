@@ -1,6 +1,8 @@
 -- What `feed` reads of some bytes, and what it leaves, by the replay of a stream.
 -- Assumes nothing: these are definitions. The image is empty, as document 01 has it of the replay program.
-use Rattle.std.specs.Prelude.{cond, List, [], ◌∷◌, ℕ, suc, ◌-◌, ltb, length, take}
+use Rattle.std.specs.Prelude.{◌≡◌, cond, List, [], ◌∷◌, ℕ, suc, ◌-◌, ltb, length, take}
+use Rattle.std.specs.declared.option.Option.{Option}
+use Rattle.std.specs.Io.KnownBytes.{Consumes, Appends}
 use Rattle.octets.specs.Bytes.{overlay}
 use Rattle.supervisor.specs.Limits.{most_pending}
 use Rattle.supervisor.specs.Calls.{Parts}
@@ -29,3 +31,10 @@ feed_promise bytes room p =
     let n = read_count p (length room) bytes in
     let c = replay_bytes [] p (take n bytes) in
     record { read = n; kept = length c.taken; room = overlay 0 c.taken room; parts = c.parts }
+
+-- The bytes that an input lost were replayed, an output took what that replay takes, and the parts are those that it leaves.
+-- Of an input and an output whose bytes are not known it says nothing.
+pub record Replays (input-before input-after output-before output-after : Option (List ℕ)) (p q : Parts) (bytes : List ℕ) : Type 0 where
+  pub consumed : Consumes input-before input-after bytes
+  pub written : Appends output-before output-after (replay_bytes [] p bytes).taken
+  pub leaves : q ≡ (replay_bytes [] p bytes).parts

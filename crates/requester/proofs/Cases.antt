@@ -1,18 +1,18 @@
--- What settles a contract by cases: a call's answer by the test of its negation, and tests that lead to each other.
+-- What settles a contract by cases: a call's answer by its test, and tests that lead to each other.
 -- Assumes nothing.
 use mathlib.Core.Path.{◌≡◌, refl, sym, ◌∙◌}
 use mathlib.Core.Bool.{Bool, true, false, not, ◌&&◌, ◌||◌, false≢true, and-eq-true_iff}
 use Prim.Native.Nat.{ℕ, ◌≤◌}
 use lib.Dec.{leb}
-use borrow.Author.Tests.{not-true, not-false, leb-true, le-leb, lt-leb, le-ltb, lt-ltb, eq-eqb, ne_eqb}
+use borrow.Author.Tests.{leb-true, le-leb, lt-leb, le-ltb, lt-ltb, eq-eqb, ne_eqb}
 
 pub ruleset cases = (le-ltb, lt-ltb, le-leb, lt-leb, eq-eqb, ne_eqb)
 
-pub refused : (r t : Bool) → r ≡ t → not r ≡ true → t ≡ false
-refused r t e h = sym e ∙ not-true r h
+pub refused : (r t : Bool) → r ≡ t → r ≡ false → t ≡ false
+refused r t e h = sym e ∙ h
 
-pub passed : (r t : Bool) → r ≡ t → not r ≡ false → t ≡ true
-passed r t e h = sym e ∙ not-false r h
+pub passed : (r t : Bool) → r ≡ t → r ≡ true → t ≡ true
+passed r t e h = sym e ∙ h
 
 -- a test that leads to what cannot be
 pub untrue : (b : Bool) → (b ≡ true → ⊥) → false ≡ b

@@ -1,27 +1,28 @@
 // Runs the cases of tests/requester_cases.py, read from standard input, over every call of the main processor's end.
-// Assumes nothing: what is out of range is passed over.
+// Assumes nothing: what is out of range is passed over. A read or a write that fails ends the program with its error.
 #![tactic(auto)]
 
 mod print;
 mod run;
 
+use std::io;
+use std::io::Read;
 use text_lines::streams;
 
-fn main() {
+fn main(rt: HostRuntime) -> io::Result<()> {
     let mut line = [0u8; streams::LINE_ROOM];
-    run_all(&mut line);
+    run_all(&rt, &mut rt.stdin(), &mut line)
 }
 
 // Every line of the input.
-fn run_all(line: &mut [u8]) {
+fn run_all<R: Read>(rt: &impl Print, input: &mut R, line: &mut [u8]) -> io::Result<()> {
     let mut now = run::fresh();
-    let mut left = streams::MOST_LINES;
-    while 0 < left {
-        left -= 1;
-        let n = streams::read_line(line);
+    for _ in 0..streams::MOST_LINES {
+        let n = streams::read_line(input, line)?;
         if n == 0 {
-            return;
+            return Ok(());
         }
-        now = run::command(octets::part(line, 0, n), now);
+        now = run::command(rt, octets::part(line, 0, n), now)?;
     }
+    Ok(())
 }

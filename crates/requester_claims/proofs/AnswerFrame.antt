@@ -30,7 +30,7 @@ use Rattle.requester_claims.specs.Histories.{MainMade, main_made, main_meant_mad
 use Rattle.requester_claims.proofs.MeaningLaws.{positive}
 use Rattle.requester_claims.proofs.History.{history}
 use Rattle.requester_claims.specs.Histories.{main_started, OfMainStart}
-use Rattle.requester_claims.specs.Answers.{OfReport, OfAnswer}
+use Rattle.requester_claims.specs.Answers.{OfReport, OfAnswer, MessageMatching}
 use Rattle.requester_claims.proofs.AnswerBytes.{answer_bytes}
 use Rattle.requester_claims.specs.Item6.{ReadTo00, Comes, InFrame, PieceTyped, AllPiecesTyped, AnswerFrame}
 
@@ -187,5 +187,6 @@ answer_frame p l h ms t k piece b =
     let q = main_left (main_started p l) ms in
     let w : Since (main_view q).received = rw i.1 (left-since main_fresh ms t fresh-since) in
     let m : MainMade = record { lent = k; call = Histories.receive piece } in
-    answer-then _ _ (λ used m c. (comes-framed piece b (main_view q).received w used m c.0, c.1))
+    answer-then (λ used n. Comes piece (main_view q).received used n × MessageMatching (main_view q).newest n)
+    (λ used n. InFrame piece (main_view q).received used n × MessageMatching (main_view q).newest n) (λ used m c. (comes-framed piece b (main_view q).received w used m c.0, c.1))
     (main_made q m).answer (main_made q m).out (answer_bytes q i.2 k piece)

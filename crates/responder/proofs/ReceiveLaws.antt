@@ -1,14 +1,14 @@
 -- Laws of what a valid request is answered: data that fit a reply, and the choices that the stores settle.
 -- Assumes nothing.
 use mathlib.Core.Path.{◌≡◌, refl, sym, ap, ◌∙◌}
-use mathlib.Core.Bool.{Bool, true, false, cond, not}
+use mathlib.Core.Bool.{Bool, true, false, cond}
 use mathlib.Core.List.{List, [], ◌∷◌, ◌++◌}
 use Prim.Native.Nat.{ℕ, ◌+◌, ◌-◌, ◌≤◌, ◌<◌}
 use native.Mathlib.Nat.{add-sub_cancel_left}
 use native.Mathlib.Omega.{arith}
 use lib.Dec.{eqb}
 use lib.ListN.{length, take, drop, replicate, length-take}
-use borrow.Author.Tests.{not-true, not-false, leb-true, lt-ltb, le-ltb}
+use borrow.Author.Tests.{leb-true, lt-ltb, le-ltb}
 use Rattle.octets.specs.Bytes.{bytes, run, number_at, overlay, put, equal, same_run}
 use Rattle.octets.proofs.Conditions.{cond-by, cond_both}
 use Rattle.octets.proofs.Numbers.{one_byte}
@@ -106,10 +106,10 @@ module _ (f image d : List ℕ) (v : valid_factory f ≡ true) (r : Bool) (e : r
   hash-compared : equal (run 0 32 d) (run Layout.hash_offset 32 f) ≡ r
   hash-compared = let l = (factory-valid f v).long in sym (e ∙ same-hash f d (omega arith))
 
-  pub block_same : not r ≡ false → run (number_at 8 d 32) Limits.longest_block image ≡ block_bytes f image d
+  pub block_same : r ≡ true → run (number_at 8 d 32) Limits.longest_block image ≡ block_bytes f image d
   unfolding block_bytes
-  block_same h = rw (hash-compared ∙ not-false r h)
+  block_same h = rw (hash-compared ∙ h)
 
-  pub block-other : not r ≡ true → [] ≡ block_bytes f image d
+  pub block-other : r ≡ false → [] ≡ block_bytes f image d
   unfolding block_bytes
-  block-other h = rw (hash-compared ∙ not-true r h)
+  block-other h = rw (hash-compared ∙ h)

@@ -117,14 +117,20 @@ served-small version e = by (eqb version first_version) refl
 
 -- what a frame's verdict comes to: what is answered of it, the parts that may change, and that they are valid
 abbrev pub Judged : List ℕ → List ℕ → Receive.Inner → Verdict → Ended → Served → Receive.Inner → Type 0
-Judged image f i v g w j =
-    (g ≡ Receive.ended_by_verdict v)
-    × ((w ≡ Receive.served_by_verdict i.settings v) × ((j ≡ Receive.inner_by image f i v) × (Receive.valid_inner j ≡ true)))
+Judged image f i v g w j = record {
+  result_value : g ≡ Receive.ended_by_verdict v;
+  result_value_2 : w ≡ Receive.served_by_verdict i.settings v;
+  registers_after : j ≡ Receive.inner_by image f i v;
+  registers_after_2 : Receive.valid_inner j ≡ true;
+}
 
 -- what a call of `fail` answers, and the outbox that it leaves
 abbrev pub Failed : ℕ → Receive.Head → List ℕ → Ended → Served → List ℕ → Type 0
-Failed reason h o g w o' =
-    (g ≡ Ended.failed reason) × ((w ≡ Served.nothing) × (o' ≡ Receive.sent_box (Receive.reply_bytes h 0x02 (bytes 1 reason)) o))
+Failed reason h o g w o' = record {
+  result_value : g ≡ Ended.failed reason;
+  result_value_2 : w ≡ Served.nothing;
+  outbox_after : o' ≡ Receive.sent_box (Receive.reply_bytes h 0x02 (bytes 1 reason)) o;
+}
 
 pub judged-failure : (image f o s r : List ℕ) (reason version : ℕ) (sequence : Option ℕ) {v : Verdict} {h : Receive.Head} {g : Ended}
     {u : Served} {o' : List ℕ}
@@ -135,13 +141,18 @@ judged-failure image f o s r reason version sequence valid e n w =
     let k =
     answering-valid (Receive.inner o s r) (Receive.failure_head version sequence) 0x02 (bytes 1 reason) valid
     (rw (length-bytes 1 reason) (omega arith)) in
-    rw (e, w.1.1, n) (w.0, (w.1.0, (refl, k)))
+    rw (e, w.outbox_after, n)
+    (record { result_value = w.result_value; result_value_2 = w.result_value_2; registers_after = refl; registers_after_2 = k })
+
+-- the outbox and the registers that a call leaves
+abbrev pub Left : List ℕ → List ℕ → List ℕ → List ℕ → Type 0
+Left o o' r r' = record { outbox_after : o ≡ o'; registers_after : r ≡ r' }
 
 -- a request without a reply
-pub unanswered-by : (i : Receive.Inner) {o r : List ℕ} (registers : List ℕ) → (o ≡ Receive.sent_box [] i.outbox) × (r ≡ registers)
+pub unanswered-by : (i : Receive.Inner) {o r : List ℕ} (registers : List ℕ) → Left o (Receive.sent_box [] i.outbox) r registers
     → Receive.inner o i.settings r ≡ Receive.no_reply i registers
 unfolding Receive.no_reply
-unanswered-by i registers f = rw (f.0, f.1)
+unanswered-by i registers f = rw (f.outbox_after, f.registers_after)
 
 -- one that is answered alone, or acknowledged, by what the code has for its reply's head
 pub answered-by : (i : Receive.Inner) (version sequence command : ℕ) (payload : List ℕ) {h : Receive.Head} {o : List ℕ}
@@ -160,21 +171,28 @@ unfolding Receive.reply_alone
 looked-by i version sequence f d e g = rw (g, e)
 
 pub acknowledged-by : (i : Receive.Inner) (version sequence : ℕ) (registers : List ℕ) {h : Receive.Head} {o r : List ℕ}
-    → h ≡ Receive.reply_head version sequence → (o ≡ Receive.sent_box (Receive.reply_bytes h 0x01 []) i.outbox) × (r ≡ registers)
+    → h ≡ Receive.reply_head version sequence → Left o (Receive.sent_box (Receive.reply_bytes h 0x01 []) i.outbox) r registers
     → Receive.inner o i.settings r ≡ Receive.acknowledged i (Receive.reply_head version sequence) registers
 unfolding Receive.acknowledged
-acknowledged-by i version sequence registers e f = rw (f.0, f.1, e)
+acknowledged-by i version sequence registers e f = rw (f.outbox_after, f.registers_after, e)
 
--- what its command leaves is what a valid request does, and valid; n is the first byte of its data
+-- what a valid request does, and that it is valid
+abbrev pub CarriedBy : List ℕ → List ℕ → Receive.Inner → ℕ → ℕ → ℕ → List ℕ → Receive.Inner → Type 0
+CarriedBy image f i version sequence command d j = record {
+  registers_after : j ≡ Receive.carried_inner image f i version sequence command d;
+  registers_after_2 : Receive.valid_inner j ≡ true;
+}
+
+-- what its command leaves is that; n is the first byte of its data
 pub carried-both : (image f : List ℕ) (i : Receive.Inner) (version sequence command : ℕ) (d : List ℕ) {n : ℕ} {j : Receive.Inner}
     → version_served version ≡ true → valid_factory f ≡ true → Receive.valid_inner i ≡ true → length d ≤ longest_data
     → (n ≡ number_at 1 d 0) × (n < 256)
     → (o : Option Command) → command_of_number command ≡ o → j ≡ Receive.command_leaves_where o image f i version sequence d
-    → (j ≡ Receive.carried_inner image f i version sequence command d) × (Receive.valid_inner j ≡ true)
+    → CarriedBy image f i version sequence command d j
 unfolding Receive.carried_inner
 carried-both image f i version sequence command d t v w h b o c e =
     let k = carried-valid image f i version sequence d (served-small version t) v w h (rw b.0 at b.1) command in
-    rw (c, e) (refl, rw c at k)
+    rw (c, e) (record { registers_after = refl; registers_after_2 = rw c at k })
 
 -- ---- a valid request that is carried out
 
@@ -194,24 +212,36 @@ module _ (image f o s t : List ℕ) (version sequence command : ℕ) (d : List �
       let m : command_of_number command ≡ some Command.key_set = rw c (of_number Command.key_set) in
       let q = carried-both image f (Receive.inner o s t) version sequence command d a g w l b (some Command.key_set) m k in
       let z : result ≡ (Receive.store_bytes s (number_at 1 d 0) (drop 1 d)).result = ap (λ (x : Receive.KeySet). x.result) e in
-      (refl, (rw (c, b.0, z), q))
+      record {
+        result_value = refl;
+        result_value_2 = rw (c, b.0, z);
+        registers_after = q.registers_after;
+        registers_after_2 = q.registers_after_2;
+      }
 
   -- any other, by a call of `carry`
-  pub judged-other : {j : Receive.Inner} → eqb command 0x10 ≡ false
-      → (j ≡ Receive.carried_inner image f (Receive.inner o s t) version sequence command d) × (Receive.valid_inner j ≡ true)
+  pub judged-other : {j : Receive.Inner} → eqb command 0x10 ≡ false → CarriedBy image f (Receive.inner o s t) version sequence command d j
       → Carried (outcome.Request command) j
   unfolding step_report served_report Receive.served_by_verdict Receive.inner_by
-  judged-other n w = (refl, (rw n, w))
+  judged-other n w =
+      record {
+        result_value = refl;
+        result_value_2 = rw n;
+        registers_after = w.registers_after;
+        registers_after_2 = w.registers_after_2;
+      }
 
 -- ---- an answer of the reader
 
 -- what comes of an answer: the same, and nothing where no frame ended that is not empty; and the reader's part behind it
 abbrev pub Settled : List ℕ → List ℕ → Receive.Inner → List ℕ → LineReader.ReadReport → Ended → Served → Receive.Inner → List ℕ → Type 0
-Settled image f i reader a g w j behind =
-    (g ≡ Receive.ended_by_reader reader a)
-    × ((w ≡ Receive.served_after i.settings (Receive.verdict_of reader a))
-    × ((j ≡ Receive.inner_after image f i (Receive.verdict_of reader a))
-    × ((Receive.valid_inner j ≡ true) × (behind ≡ Receive.reader_behind reader a))))
+Settled image f i reader a g w j behind = record {
+  result_value : g ≡ Receive.ended_by_reader reader a;
+  result_value_2 : w ≡ Receive.served_after i.settings (Receive.verdict_of reader a);
+  registers_after : j ≡ Receive.inner_after image f i (Receive.verdict_of reader a);
+  registers_after_2 : Receive.valid_inner j ≡ true;
+  reader_after : behind ≡ Receive.reader_behind reader a;
+}
 
 -- by a call of `fail`
 pub settled-failure : (image f o s r reader : List ℕ) (reason : ℕ) (sequence : Option ℕ) {a : LineReader.ReadReport} {h : Receive.Head}
@@ -222,7 +252,14 @@ pub settled-failure : (image f o s r reader : List ℕ) (reason : ℕ) (sequence
 unfolding Receive.ended_by_reader Receive.inner_after Receive.served_after Receive.verdict_of Receive.reader_behind Receive.sets_passphrase
 settled-failure image f o s r reader reason sequence v e n w =
     let q = judged-failure image f o s r reason first_version sequence v refl n w in
-    rw e (q.0, (q.1.0, (q.1.1.0, (q.1.1.1, refl))))
+    rw e
+    (record {
+      result_value = q.result_value;
+      result_value_2 = q.result_value_2;
+      registers_after = q.registers_after;
+      registers_after_2 = q.registers_after_2;
+      reader_after = refl;
+    })
 
 -- by a call of `request`, and then of `wipe_passphrase`
 pub settled-message : (image f : List ℕ) (i : Receive.Inner) (reader : List ℕ) (version sequence command n : ℕ)
@@ -233,7 +270,14 @@ pub settled-message : (image f : List ℕ) (i : Receive.Inner) (reader : List �
 unfolding Receive.ended_by_reader Receive.inner_after Receive.served_after Receive.verdict_of Receive.reader_behind Receive.sets_passphrase
 settled-message image f i reader version sequence command n e h w b =
     let q = rw h at w in
-    rw e (q.0, (q.1.0, (q.1.1.0, (q.1.1.1, b))))
+    rw e
+    (record {
+      result_value = q.result_value;
+      result_value_2 = q.result_value_2;
+      registers_after = q.registers_after;
+      registers_after_2 = q.registers_after_2;
+      reader_after = b;
+    })
 
 -- ---- an iteration
 
@@ -257,46 +301,37 @@ module _ (image piece : List ℕ) (p : Parts) (v : Receive.valid_parts p ≡ tru
   pub valid-step-by : {n : ℕ} {a : LineReader.ReadReport} {g : Ended} {u : Served} {reader behind o s t : List ℕ}
       → record { used = n; answer = a; state = reader } ≡ LineReader.read_promise p.reader piece
       → Settled image p.factory (Receive.inner_of p) reader a g u (Receive.inner o s t) behind
-      → (record { used = n; ended = g; served = u; parts = parts behind o p.factory s t } ≡ Receive.valid_step image p piece)
-      × (Receive.valid_parts (parts behind o p.factory s t) ≡ true)
+      → record {
+        registers_after : record { used = n; ended = g; served = u; parts = parts behind o p.factory s t } ≡ Receive.valid_step image p piece;
+        registers_after_2 : Receive.valid_parts (parts behind o p.factory s t) ≡ true;
+      }
   unfolding Receive.valid_step Receive.after_answer
   valid-step-by {n} {a} {g} {u} {reader} {behind} {o} {s} {t} e w =
       let h = parts-valid p v in
-      let b = w.1.1.1.1 in
+      let b = w.reader_after in
       let q = e ∙ accepted p.reader piece h.reader in
       let st : reader ≡ read.state = ap (λ (y : LineReader.ReadOutcome). y.state) q in
       let an : a ≡ read.answer = ap (λ (y : LineReader.ReadOutcome). y.answer) q in
       let us : n ≡ read.used = ap (λ (y : LineReader.ReadOutcome). y.used) q in
       let k : LineReader.valid_reader reader ≡ true = rw st (read-valid p.reader piece h.reader) in
-      let i : LineReader.valid_reader behind ≡ true = rw b (behind-stays reader a k).valid in (
-        rw (← us, ← st, ← an, w.0, w.1.0, ← w.1.1.0, b),
-        valid-parts (parts behind o p.factory s t) (record { reader = i; factory = h.factory; inner = w.1.1.1.0 }),
-      )
+      let i : LineReader.valid_reader behind ≡ true = rw b (behind-stays reader a k).valid in
+      record {
+        registers_after = rw (← us, ← st, ← an, w.result_value, w.result_value_2, ← w.registers_after, b);
+        registers_after_2 =
+            valid-parts (parts behind o p.factory s t) (record { reader = i; factory = h.factory; inner = w.registers_after_2 });
+      }
 
 -- ---- the loop over a piece
 
--- The parts as they are at an offset of the piece are valid, and what is left of it is fed to them.
--- Each part has the length that it came with.
+-- the parts as they are at an offset of the piece are valid, and what is left of it is fed to them
 pub record Held (image piece : List ℕ) (p₀ p : Parts) (at : ℕ) : Type 0 where
   pub within : at ≤ length piece
   pub valid : Receive.valid_parts p ≡ true
   pub same : Receive.receive_promise image p₀ piece ≡ record { refusal = none; parts = Receive.feed_bytes image p (drop at piece) }
-  pub reader_kept : length p.reader ≡ length p₀.reader
-  pub outbox_kept : length p.outbox ≡ length p₀.outbox
-  pub settings_kept : length p.settings ≡ length p₀.settings
-  pub registers_kept : length p.registers ≡ length p₀.registers
 
 pub begun : (image piece : List ℕ) (p : Parts) → Receive.valid_parts p ≡ true → Held image piece p p 0
 unfolding Receive.receive_promise
-begun image piece p v = record {
-  within = zero-le;
-  valid = v;
-  same = rw v;
-  reader_kept = refl;
-  outbox_kept = refl;
-  settings_kept = refl;
-  registers_kept = refl;
-}
+begun image piece p v = record { within = zero-le; valid = v; same = rw v }
 
 pub over : {image piece : List ℕ} {p₀ p : Parts} {at : ℕ} → Held image piece p₀ p at → length piece ≤ at
     → Receive.receive_outcome received.Done p ≡ Receive.receive_promise image p₀ piece
@@ -342,19 +377,13 @@ module _ {image piece : List ℕ} {p₀ p : Parts} {at : ℕ} {o : Receive.StepO
       let i = w.reads_one (omega arith) in
       (omega arith, omega arith)
 
-  pub went : Receive.valid_parts o.parts ≡ true → length o.parts.reader ≡ length p.reader
-      → length o.parts.outbox ≡ length p.outbox → length o.parts.settings ≡ length p.settings
-      → length o.parts.registers ≡ length p.registers → Held image piece p₀ o.parts (at + o.used)
+  pub went : Receive.valid_parts o.parts ≡ true → Held image piece p₀ o.parts (at + o.used)
   unfolding Receive.valid_step
-  went v a b c d =
+  went v =
       let u : o.used ≡ (LineReader.read_piece p.reader left).used = ap (λ (x : Receive.StepOutcome). x.used) by_left in
       let q = ap (λ (x : Receive.StepOutcome). x.parts) by_left in
       record {
         within = valid-step-used.1;
         valid = v;
         same = h.same ∙ rw (iteration-rest image left p, ← u, ← q, drop-drop);
-        reader_kept = a ∙ h.reader_kept;
-        outbox_kept = b ∙ h.outbox_kept;
-        settings_kept = c ∙ h.settings_kept;
-        registers_kept = d ∙ h.registers_kept;
       }

@@ -1,10 +1,10 @@
 -- Laws of the tests that the reader makes, one for each way out.
 -- Assumes nothing.
 use mathlib.Core.Path.{◌≡◌, sym, ◌∙◌}
-use mathlib.Core.Bool.{Bool, true, false, not}
+use mathlib.Core.Bool.{Bool, true, false}
 use mathlib.Core.List.{List, ◌++◌}
 use Prim.Native.Nat.{ℕ, ◌+◌, ◌≤◌, ◌<◌}
-use borrow.Author.Tests.{lt-ltb, le-ltb, eq-eqb, ne_eqb, not-true, not-false}
+use borrow.Author.Tests.{lt-ltb, le-ltb, eq-eqb, ne_eqb}
 use lib.Dec.{eqb}
 use lib.ListN.{length}
 use Rattle.octets.specs.Bytes.{run}
@@ -81,15 +81,15 @@ module _ (input : List ℕ) where
 
   module _ {sum type : Bool} {t : ℕ} (e : sum ≡ eqb (crc_field input) (crc (checked input))) (f : t ≡ type_of input)
       (g : type ≡ listed_type t) where
-    pub bad-crc : not sum ≡ true → failure 25 ≡ judge_message input
+    pub bad-crc : sum ≡ false → failure 25 ≡ judge_message input
     unfolding judge_message
-    bad-crc h = rw (sym e ∙ not-true sum h)
+    bad-crc h = rw (sym e ∙ h)
 
-    module _ (right : not sum ≡ false) where
-      pub bad-type : not type ≡ true → failure 26 ≡ judge_message input
+    module _ (right : sum ≡ true) where
+      pub bad-type : type ≡ false → failure 26 ≡ judge_message input
       unfolding judge_message
-      bad-type h = rw (sym e ∙ not-false sum right, ← f, sym g ∙ not-true type h)
+      bad-type h = rw (sym e ∙ right, ← f, sym g ∙ h)
 
-      pub accepted : not type ≡ false → good (rot_message_with t (rot_payload input)) ≡ judge_message input
+      pub accepted : type ≡ true → good (rot_message_with t (rot_payload input)) ≡ judge_message input
       unfolding judge_message
-      accepted h = rw (sym e ∙ not-false sum right, ← f, sym g ∙ not-false type h)
+      accepted h = rw (sym e ∙ right, ← f, sym g ∙ h)

@@ -39,7 +39,7 @@ after-bits-lt c (b ∷ bs) h = after-bits-lt (after_bit c b) bs (after-bit-lt c 
 pub after-bytes-lt : (c : ℕ) (bs : List ℕ) → c < 2 ^ 32 → after_bytes c bs < 2 ^ 32
 unfolding after_bytes
 after-bytes-lt c [] h = h
-after-bytes-lt c (b ∷ bs) h = after-bytes-lt _ bs (after-bits-lt c (bits 8 b) h)
+after-bytes-lt c (b ∷ bs) h = after-bytes-lt (after_bits c (bits 8 b)) bs (after-bits-lt c (bits 8 b) h)
 
 pub crc-lt : (bs : List ℕ) → crc bs < 2 ^ 32
 unfolding crc
@@ -50,7 +50,7 @@ crc-lt bs = omega arith
 pub after-append : (c : ℕ) (xs ys : List ℕ) → after_bytes c (xs ++ ys) ≡ after_bytes (after_bytes c xs) ys
 unfolding after_bytes
 after-append c [] ys = refl
-after-append c (x ∷ xs) ys = after-append _ xs ys
+after-append c (x ∷ xs) ys = after-append (after_bits c (bits 8 x)) xs ys
 
 pub after-step : (s : List ℕ) (i c next : ℕ) {end : ℕ} → i < length s → next ≡ after_bits c (bits 8 (get_or s i 0))
     → after_bytes c (drop i s) ≡ end → after_bytes next (drop (i + 1) s) ≡ end

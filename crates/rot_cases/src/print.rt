@@ -1,46 +1,47 @@
 // Prints the answers of the root-of-trust link, each with one space in front; refusals go by the numbers of document 02.
-// Assumes nothing: output that cannot be written is lost.
+// Assumes nothing: a write that fails ends the call with its error.
 use rot::reader::Answer;
 use rot::refusals;
 use rot::writer::Written;
+use std::io;
 use text_lines::streams::{hex, number, refused, word};
 
 // What read answered; how many bytes it wrote.
-pub(crate) fn reading(a: Answer) -> usize {
+pub(crate) fn reading(rt: &impl Print, a: Answer) -> io::Result<usize> {
     match a {
         Answer::Refused(why) => {
-            refused(refusals::number(why) as u64);
-            0
+            refused(rt, refusals::number(why) as u64)?;
+            Ok(0)
         }
         Answer::Nothing => {
-            word(b" nothing");
-            0
+            word(rt, b" nothing")?;
+            Ok(0)
         }
         Answer::Message(head) => {
-            word(b" message");
-            hex(head.kind as u64, 2);
-            number(head.length as u64);
-            0
+            word(rt, b" message")?;
+            hex(rt, head.kind as u64, 2)?;
+            number(rt, head.length as u64)?;
+            Ok(0)
         }
         Answer::Echoed(n) => {
-            word(b" echoed");
-            number(n as u64);
-            n
+            word(rt, b" echoed")?;
+            number(rt, n as u64)?;
+            Ok(n)
         }
     }
 }
 
 // What write answered; how many bytes it wrote.
-pub(crate) fn writing(a: Written) -> usize {
+pub(crate) fn writing(rt: &impl Print, a: Written) -> io::Result<usize> {
     match a {
         Written::Refused(why) => {
-            refused(refusals::number(why) as u64);
-            0
+            refused(rt, refusals::number(why) as u64)?;
+            Ok(0)
         }
         Written::Done(n) => {
-            word(b" wrote");
-            number(n as u64);
-            n
+            word(rt, b" wrote")?;
+            number(rt, n as u64)?;
+            Ok(n)
         }
     }
 }

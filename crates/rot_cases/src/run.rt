@@ -2,6 +2,7 @@
 // Assumes nothing: a command whose counts do not fit does nothing.
 use crate::print;
 use rot::{crc, reader, writer};
+use std::io;
 use text_lines::{fields, pieces, streams};
 
 const PIECE_ROOM: usize = 1024;
@@ -30,25 +31,25 @@ pub(crate) fn fresh() -> Case {
 }
 
 // One line.
-pub(crate) fn command(line: &[u8], now: Case) -> Case {
+pub(crate) fn command(rt: &impl Print, line: &[u8], now: Case) -> io::Result<Case> {
     let key = fields::key(line);
     match key {
-        b'=' => begin(line),
-        b'+' | b'*' => add(line, now),
-        b'r' => read(line, now),
-        b'w' => write(line, now),
-        b'o' => take_written(now),
+        b'=' => begin(rt, line),
+        b'+' | b'*' => Ok(add(line, now)),
+        b'r' => read(rt, line, now),
+        b'w' => write(rt, line, now),
+        b'o' => Ok(take_written(now)),
         _ => {
-            look(key, now);
-            now
+            look(rt, key, now)?;
+            Ok(now)
         }
     }
 }
 
 // A fresh case, with its name.
-fn begin(line: &[u8]) -> Case {
-    streams::name(line);
-    fresh()
+fn begin(rt: &impl Print, line: &[u8]) -> io::Result<Case> {
+    streams::name(rt, line)?;
+    Ok(fresh())
 }
 
 fn add(line: &[u8], now: Case) -> Case {
@@ -60,41 +61,41 @@ fn add(line: &[u8], now: Case) -> Case {
 }
 
 // Reads the piece with the line's first field as room.
-fn read(line: &[u8], now: Case) -> Case {
+fn read(rt: &impl Print, line: &[u8], now: Case) -> io::Result<Case> {
     let mut next = now;
     let piece = now.piece;
     let mut out = now.out;
     let input = octets::part(&piece, 0, now.piece_count);
-    next.written = read_into(input, &mut out, fields::count(line, 1));
-    streams::bytes(reader::payload(input));
-    streams::digest(&out);
+    next.written = read_into(rt, input, &mut out, fields::count(line, 1))?;
+    streams::bytes(rt, reader::payload(input))?;
+    streams::digest(rt, &out)?;
     next.out = out;
-    next
+    Ok(next)
 }
 
 // With the first bytes of the output as room; how many bytes the echo's answer has.
-fn read_into(input: &[u8], out: &mut [u8], room: usize) -> usize {
+fn read_into(rt: &impl Print, input: &[u8], out: &mut [u8], room: usize) -> io::Result<usize> {
     let end = octets::min(room, out.len());
-    print::reading(reader::read(input, &mut out[0..end]))
+    print::reading(rt, reader::read(input, &mut out[0..end]))
 }
 
 // Writes a message with the piece as its payload, by the line's fields.
-fn write(line: &[u8], now: Case) -> Case {
+fn write(rt: &impl Print, line: &[u8], now: Case) -> io::Result<Case> {
     let mut next = now;
     let piece = now.piece;
     let mut out = now.out;
     let payload = octets::part(&piece, 0, now.piece_count);
-    next.written = write_into(line, payload, &mut out);
-    streams::digest(&out);
+    next.written = write_into(rt, line, payload, &mut out)?;
+    streams::digest(rt, &out)?;
     next.out = out;
-    next
+    Ok(next)
 }
 
 // The type is the line's first field, the room its second; how many bytes are written.
-fn write_into(line: &[u8], payload: &[u8], out: &mut [u8]) -> usize {
+fn write_into(rt: &impl Print, line: &[u8], payload: &[u8], out: &mut [u8]) -> io::Result<usize> {
     let kind = fields::hex_u8(line, 1);
     let end = octets::min(fields::count(line, 2), out.len());
-    print::writing(writer::write(kind, payload, &mut out[0..end]))
+    print::writing(rt, writer::write(kind, payload, &mut out[0..end]))
 }
 
 // Makes what was written the piece.
@@ -108,11 +109,15 @@ fn take_written(now: Case) -> Case {
 }
 
 // A command that changes nothing.
-fn look(key: u8, now: Case) {
+fn look(rt: &impl Print, key: u8, now: Case) -> io::Result<()> {
     let piece = now.piece;
     match key {
-        b'k' => streams::hex(crc::crc(octets::part(&piece, 0, now.piece_count)) as u64, 8),
-        b'.' => streams::word(b"\n"),
-        _ => {}
+        b'k' => streams::hex(
+            rt,
+            crc::crc(octets::part(&piece, 0, now.piece_count)) as u64,
+            8,
+        ),
+        b'.' => streams::word(rt, b"\n"),
+        _ => Ok(()),
     }
 }

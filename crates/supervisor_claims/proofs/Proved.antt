@@ -26,7 +26,7 @@ use Rattle.supervisor_claims.proofs.claims.SetResults.{factory_edition, reply_ve
 use Rattle.supervisor_claims.proofs.claims.LastSetLaws.{set_successful, successful_exactly, replaced_other}
 use Rattle.supervisor_claims.proofs.claims.SameEdition.{same_edition, same_edition_same_list, reads_leave}
 use Rattle.supervisor_claims.proofs.claims.WithdrawnKeys.{value_last_set, last_set, withdrawn_list_answered, lookup_last_set}
-use Rattle.supervisor_claims.proofs.claims.WithdrawnKeys.{set-answered, list_edition_answered}
+use Rattle.supervisor_claims.proofs.claims.WithdrawnKeys.{set_answered, list_edition_answered}
 use Rattle.supervisor_claims.proofs.claims.WithdrawnKeys.{passphrase_unread, passphrase_unread_locally}
 use Rattle.supervisor_claims.proofs.claims.RetainedClaim.{retained_stays, reboot_forgets, power_off_forgets, fresh_alert}
 use Rattle.supervisor_claims.proofs.claims.AlertClaim.{local_keeps, failed_keeps, request_retains, retained_exactly}
@@ -122,13 +122,13 @@ item-4 = record {
   more_items_11 = more_items_11;
   up_to_64_items = up_to_64_items;
   value_lengths = value_lengths;
-  set-answered = set-answered;
+  set_answered = set_answered;
   parts_fit = parts_fit;
 }
 
 pub item-5 : SupervisorItem5
 item-5 = record {
-  set-answered = set-answered;
+  set_answered = set_answered;
   stores_nothing = stores_nothing;
   factory_edition = factory_edition;
   reply_version = reply_version;
@@ -159,7 +159,7 @@ item-11 = record {
 
 pub item-14 : SupervisorItem14
 item-14 = record {
-  set-answered = set-answered;
+  set_answered = set_answered;
   value_lengths = value_lengths;
   stores_nothing = stores_nothing;
   passphrase_unread = passphrase_unread;

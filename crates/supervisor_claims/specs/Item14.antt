@@ -53,7 +53,7 @@ TwoStates = (r s : Run) → without_passphrase (view (left_by_run r)) ≡ withou
 
 pub record SupervisorItem14 : Type 0 where
   -- a set of key 6 takes 8 to 63 bytes; another length answers 3, and invalid keys of a set start at 7
-  pub set-answered : AfterCalls SetAnswered
+  pub set_answered : AfterCalls SetAnswered
   pub value_lengths : ValueLengths
   -- and stores nothing
   pub stores_nothing : StoresNothing

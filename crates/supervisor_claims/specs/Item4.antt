@@ -30,6 +30,6 @@ pub record SupervisorItem4 : Type 0 where
   pub value_lengths : ValueLengths
   -- Behind any calls a set answers 1 for a key above 6, and 2 for keys 0 to 2.
   -- Else it answers 3 for a wrong length, else 4 at the last edition, else 0.
-  pub set-answered : AfterCalls SetAnswered
+  pub set_answered : AfterCalls SetAnswered
   -- all parts together have at most 65,536 bytes
   pub parts_fit : PartsFit

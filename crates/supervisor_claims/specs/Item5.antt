@@ -69,7 +69,7 @@ pub record SupervisorItem5 : Type 0 where
   -- a local call that only reads, as those do, leaves every byte of the parts, whatever it is lent
   pub reads_leave : ReadsLeave
   -- a set at edition 4,294,967,295 answers 4, in both versions, where results 1 to 3 don't apply
-  pub set-answered : AfterCalls SetAnswered
+  pub set_answered : AfterCalls SetAnswered
   -- and stores nothing, as every set whose result is not 0
   pub stores_nothing : StoresNothing
   -- factory keys have edition 0

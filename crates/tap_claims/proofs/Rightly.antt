@@ -161,5 +161,5 @@ replies-rightly k s image form h _ b fits r = by (verdict form) refl
     by (failure reason version sequence) e f = let z : Requests.failure_reply reason version sequence ≡ r = cc in
         rw (← z) (rw (eq-eqb version version refl, first_byte reason [], eq-eqb reason reason refl), fits)
     by (good m) e f =
-        replied m (command_of_number m.command) (result_due k m.payload) _ _ (carry_out image s m).reply
+        replied m (command_of_number m.command) (result_due k m.payload) (known_after k (good m)) (after_table image s (good m)) (carry_out image s m).reply
         (carried-right s fits (held-sized s h) image m (good-typed form m b e).version).1 f

@@ -1,14 +1,12 @@
-// Lines of standard input, and printing to standard output, each number with one space in front.
-// No contract can say what is read or printed;
-// what is lent to be printed stays as it is. Assumes nothing: output that cannot be written is lost.
-ghost use Rattle.std.specs.Prelude.{◌≤◌, ◌≡◌, length};
+// Lines of an input, and printing, each number with one space in front.
+// No contract says what is read or printed; what is lent to be printed stays as it is.
+// Assumes nothing: a read or a write that fails ends the call with its error.
+ghost use Rattle.std.specs.Prelude.{◌≤◌, ◌≡◌, IfOk, length};
 
 use crate::digest::digest_on;
 use crate::fields;
-
-const INPUT: i32 = 0;
-
-const OUTPUT: i32 = 1;
+use std::io;
+use std::io::Read;
 
 // Refusals by their numbers in document 01.
 pub const NO_ROOM: u64 = 8;
@@ -18,7 +16,7 @@ pub const TOO_LONG: u64 = 9;
 pub const REFUSED: u64 = 12;
 
 // More lines than any input has.
-pub const MOST_LINES: u64 = 1000000;
+pub const MOST_LINES: u64 = u64::MAX;
 
 // A line longer than this is taken in pieces.
 pub const LINE_ROOM: usize = 128;
@@ -27,83 +25,81 @@ pub const LINE_ROOM: usize = 128;
 const MOST_DIGITS: usize = 48;
 
 // Reads a line, without its end, into the start of room; how many bytes it has, and 0 at the end of the input.
-pub fn read_line(room: &mut [u8]) -> usize
-    ensures { (result ≤ length room.old) × (length room.new ≡ length room.old) }
+pub fn read_line<R: Read>(input: &mut R, room: &mut [u8]) -> io::Result<usize>
+    ensures count { IfOk result (λ n. n ≤ length room.old) }
+    ensures room { length room.new ≡ length room.old }
 {
     let mut n = 0;
     while n < room.len() {
-        if io::read_full(INPUT, &mut room[n..n + 1]) == 0 {
-            return 0;
+        if input.read(&mut room[n..n + 1])? == 0 {
+            return Ok(0);
         }
         if room[n] == b'\n' {
-            return n;
+            return Ok(n);
         }
         n += 1;
     }
-    n
+    Ok(n)
 }
 
-pub fn word(s: &[u8])
-    ensures { (result ≡ tt) × (s.now ≡ s.now) }
+pub fn word(rt: &impl Print, s: &[u8]) -> io::Result<()>
+    ensures { IfOk result (λ done. (done ≡ tt) × (s.now ≡ s.now)) }
 {
-    io::write_all(OUTPUT, s);
+    rt.write_all(s)
 }
 
-pub fn number(n: u64)
-    ensures { result ≡ tt }
+pub fn number(rt: &impl Print, n: u64) -> io::Result<()>
+    ensures { IfOk result (λ done. done ≡ tt) }
 {
-    word(b" ");
-    io::print_decimal(OUTPUT, n);
+    print!(rt; " {n}")
 }
 
-pub fn hex(n: u64, width: usize)
-    ensures { result ≡ tt }
+pub fn hex(rt: &impl Print, n: u64, width: usize) -> io::Result<()>
+    ensures { IfOk result (λ done. done ≡ tt) }
 {
-    word(b" ");
-    io::print_hex(OUTPUT, n, width);
+    print!(rt; " {n:0width$x}")
 }
 
 // The name of the case that the line begins.
-pub fn name(line: &[u8])
-    ensures { (result ≡ tt) × (line.now ≡ line.now) }
+pub fn name(rt: &impl Print, line: &[u8]) -> io::Result<()>
+    ensures { IfOk result (λ done. (done ≡ tt) × (line.now ≡ line.now)) }
 {
-    word(fields::behind_key(line));
-    word(b":");
+    word(rt, fields::behind_key(line))?;
+    word(rt, b":")
 }
 
 // A refusal by its number in the papers.
-pub fn refused(n: u64)
-    ensures { result ≡ tt }
+pub fn refused(rt: &impl Print, n: u64) -> io::Result<()>
+    ensures { IfOk result (λ done. done ≡ tt) }
 {
-    word(b" refused");
-    number(n);
+    word(rt, b" refused")?;
+    number(rt, n)
 }
 
 // The digest of bytes.
-pub fn digest(s: &[u8])
-    ensures { (result ≡ tt) × (s.now ≡ s.now) }
+pub fn digest(rt: &impl Print, s: &[u8]) -> io::Result<()>
+    ensures { IfOk result (λ done. (done ≡ tt) × (s.now ≡ s.now)) }
 {
-    number(digest_on(0, s) as u64);
+    number(rt, digest_on(0, s) as u64)
 }
 
 // The bytes in hex.
-fn digits(s: &[u8]) {
-    word(b" ");
-    let mut i = 0;
-    while i < s.len() {
-        io::print_hex(OUTPUT, octets::wide(s[i]) as u64, 2);
-        i += 1;
+fn digits(rt: &impl Print, s: &[u8]) -> io::Result<()> {
+    word(rt, b" ")?;
+    for b in s {
+        print!(rt; "{b:02x}")?;
     }
+    Ok(())
 }
 
 // How many bytes; then, unless there are none, the first of them in hex and the digest of all.
-pub fn bytes(s: &[u8])
-    ensures { (result ≡ tt) × (s.now ≡ s.now) }
+pub fn bytes(rt: &impl Print, s: &[u8]) -> io::Result<()>
+    ensures { IfOk result (λ done. (done ≡ tt) × (s.now ≡ s.now)) }
 {
-    number(s.len() as u64);
+    number(rt, s.len() as u64)?;
     if s.len() == 0 {
-        return;
+        return Ok(());
     }
-    digits(octets::part(s, 0, MOST_DIGITS));
-    digest(s);
+    digits(rt, octets::part(s, 0, MOST_DIGITS))?;
+    digest(rt, s)
 }

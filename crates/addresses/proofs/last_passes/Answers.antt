@@ -17,6 +17,8 @@ overflow_mul-last c =
 pub overflow_add-last : goal.overflow_add-last
 overflow_add-last c =
     last_fits _ _ _ (search rules) (omega arith) (search rules)
-    -- TODO returns: no step number_of_lem at After-number_of: let else1 = c.before.before in
-    let a = else1.before.args in
-    rw (c.wide.ensures.0, c.before.number_of_lem.ensures.0) (last-passes a.base a.count a.stride else1.if1.false)
+
+pub returns : goal.returns
+returns c =
+    let a = c.args in
+    rw (c.wide.ensures.0, c.number_of.ensures.0) (last-passes a.base a.count a.stride c.if-count-eq0.false)

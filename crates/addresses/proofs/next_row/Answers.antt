@@ -1,12 +1,9 @@
 -- `addresses::next_row` meets its contract. The loop's invariant: what is left of the row is still to be added, with the carry.
 -- Assumes nothing.
-use Prim.Native.Nat.{◌≤◌, ◌<◌}
 use mathlib.Core.Path.{◌≡◌, sym, ◌∙◌}
 use borrow.Author.Rules.{rules}
 use native.Mathlib.Omega.{arith}
-use lib.ListN.{length}
-use Rattle.addresses.specs.Addresses.{next_row}
-use Rattle.addresses.proofs.Carry.{rest, rest_all, rest-none, rest-less}
+use Rattle.addresses.proofs.Carry.{rest_all, rest-none, rest-less}
 use Rattle.addresses.proofs.next_row.Goals as goal
 
 pub loop-left-init : goal.loop-left-init

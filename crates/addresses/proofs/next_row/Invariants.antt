@@ -1,12 +1,10 @@
 -- `addresses::next_row` meets its contract. The loop's invariant: what is left of the row is still to be added, with the carry.
 -- Assumes nothing.
 use Prim.Native.Nat.{◌≤◌, ◌<◌}
-use mathlib.Core.Path.{◌≡◌, sym, ◌∙◌}
-use borrow.Author.Rules.{rules}
-use native.Mathlib.Omega.{arith}
+use mathlib.Core.Path.{◌≡◌}
 use lib.ListN.{length}
 use Rattle.addresses.specs.Addresses.{next_row}
-use Rattle.addresses.proofs.Carry.{rest, rest_all, rest-none, rest-less}
+use Rattle.addresses.proofs.Carry.{rest}
 use Rattle.addresses.proofs.next_row.Given as goal
 
 abbrev pub invariant-loop-left : goal.invariant-loop-left

@@ -1,10 +1,8 @@
 -- `addresses::number_of` meets its contract. The loop's invariant: the number is that of the first i bytes.
 -- Assumes nothing.
-use Prim.Native.Nat.{◌-◌, ◌^◌, ◌≤◌, ◌<◌}
-use mathlib.Core.Path.{◌≡◌, ap, ◌∙◌}
+use mathlib.Core.Path.{ap, ◌∙◌}
 use borrow.Author.Rules.{rules}
 use native.Mathlib.Omega.{arith}
-use lib.ListN.{take}
 use lib.Seq.{take_all}
 use Rattle.addresses.specs.Addresses.{address_number}
 use Rattle.addresses.proofs.Number.{number-none, number_more, digits_more, digits-fewer, shifted_fits, digit-fits}

@@ -1,14 +1,11 @@
 -- `audit::list` meets its contract.
 -- The loop's invariant: the text up to an offset of the capture is written, and the text is that and what is left.
 -- Assumes nothing.
-use mathlib.Core.Path.{◌≡◌, refl, sym, ap, ◌∙◌}
-use Prim.Native.Nat.{◌+◌, ◌-◌, ◌≤◌, ◌<◌}
+use mathlib.Core.Path.{refl}
 use native.Mathlib.Omega.{arith}
-use lib.ListN.{length}
 use borrow.Author.Rules.{rules}
-use Rattle.plain.specs.Answers.{NextReport, next_report, piece_at}
 use Rattle.plain.proofs.Steps.{at-frame, at_tail}
-use Rattle.audit.proofs.Lines.{Middle, middle-start, middle-next, middle-end}
+use Rattle.audit.proofs.Lines.{frame-found, tail-found, middle-start, middle-next, middle-end}
 use Rattle.audit.proofs.list.Goals as goal
 
 pub loop-n-init : goal.loop-n-init
@@ -16,47 +13,48 @@ loop-n-init c =
     (search rules, refl, middle-start _ _)
 
 pub put_frame-k-requires : goal.put_frame-k-requires
-unfolding next_report
 put_frame-k-requires c =
-    let iteration = c.loop-n in
-    let a = c.args in
-    let f = at-frame a.capture.now iteration.at (ap next_report (sym c.piece-1.given.1) ∙ c.next-piece.ensures) in
-    (omega (arith, f.within), (omega arith, omega (arith, f.within, iteration.invariant.2.short)))
+    let l = c.loop-n in
+    let f = at-frame c.args.capture.now l.at (frame-found _ _ c.in-Frame.is c.next-piece.ensures) in
+    record {
+      n_in_bounds = omega (arith, f.within);
+      capture_len_bound = omega arith;
+      k_in_bounds = omega (arith, f.within, l.invariant.2.short);
+    }
 
 pub overflow_add-at : goal.overflow_add-at
 overflow_add-at c =
-    omega (arith, (let within-here : let iteration = c.loop-n in let a = c.args in iteration.at + c.piece-1.given.0.0 < length a.capture.now = (at-frame _ _ ((let found-here : let iteration = c.loop-n in let a = c.args in NextReport.frame c.piece-1.given.0.0 ≡ piece_at a.capture.now iteration.at = ap next_report (sym c.piece-1.given.1) ∙ c.next-piece.ensures in found-here))).within in within-here))
+    let f = at-frame c.args.capture.now c.loop-n.at (frame-found _ _ c.in-Frame.is c.next-piece.ensures) in omega (arith, f.within)
 
 pub overflow_add-at-in-Frame : goal.overflow_add-at-in-Frame
 overflow_add-at-in-Frame c =
-    omega (arith, (let within-here : let iteration = c.loop-n in let a = c.args in iteration.at + c.piece-1.given.0.0 < length a.capture.now = (at-frame _ _ ((let found-here : let iteration = c.loop-n in let a = c.args in NextReport.frame c.piece-1.given.0.0 ≡ piece_at a.capture.now iteration.at = ap next_report (sym c.piece-1.given.1) ∙ c.next-piece.ensures in found-here))).within in within-here))
+    let f = at-frame c.args.capture.now c.loop-n.at (frame-found _ _ c.in-Frame.is c.next-piece.ensures) in omega (arith, f.within)
 
 pub loop-n-smaller : goal.loop-n-smaller
 loop-n-smaller c =
-    omega (arith, (let within-here : let iteration = c.loop-n in let a = c.args in iteration.at + c.piece-1.given.0.0 < length a.capture.now = (at-frame _ _ ((let found-here : let iteration = c.loop-n in let a = c.args in NextReport.frame c.piece-1.given.0.0 ≡ piece_at a.capture.now iteration.at = ap next_report (sym c.piece-1.given.1) ∙ c.next-piece.ensures in found-here))).within in within-here))
+    let f = at-frame c.args.capture.now c.loop-n.at (frame-found _ _ c.in-Frame.is c.next-piece.ensures) in omega (arith, f.within)
 
 pub loop-n-preserved : goal.loop-n-preserved
 loop-n-preserved c =
-    let iteration = c.loop-n in
-    let a = c.args in (
-      omega (arith, (let within-here : let iteration = c.loop-n in let a = c.args in iteration.at + c.piece-1.given.0.0 < length a.capture.now = (at-frame _ _ ((let found-here : let iteration = c.loop-n in let a = c.args in NextReport.frame c.piece-1.given.0.0 ≡ piece_at a.capture.now iteration.at = ap next_report (sym c.piece-1.given.1) ∙ c.next-piece.ensures in found-here))).within in within-here)),
+    let l = c.loop-n in
+    let a = c.args in
+    let found = frame-found a.capture.now l.at c.in-Frame.is c.next-piece.ensures in
+    let f = at-frame a.capture.now l.at found in (
+      omega (arith, f.within),
       search rules,
-      middle-next a.capture.now a.text.now iteration.text iteration.at iteration.k _ iteration.inv.2 ((let found-here : let iteration = c.loop-n in let a = c.args in NextReport.frame c.piece-1.given.0.0 ≡ piece_at a.capture.now iteration.at = ap next_report (sym c.piece-1.given.1) ∙ c.next-piece.ensures in found-here)) _ _
-          c.put_frame-k.ensures.0 c.put_frame-k.ensures.1,
+      middle-next a.capture.now a.text.now l.text l.at l.k _ l.invariant.2 found _ _
+          c.put_frame-k.ensures.wrote c.put_frame-k.ensures.upper_bound,
     )
 
 pub put_tail-requires : goal.put_tail-requires
-unfolding next_report
 put_tail-requires c =
-    let iteration = c.loop-n in
-    let a = c.args in
-    let t = at_tail a.capture.now iteration.at (ap next_report (sym c.piece-in-Tail-1.given.1) ∙ c.next-piece.ensures) in
-    record { n_le_longest_capture = omega (arith, t.within); k_in_bounds = omega (arith, iteration.inv.2.short) }
+    let l = c.loop-n in
+    let t = at_tail c.args.capture.now l.at (tail-found _ _ c.in-Tail.is c.next-piece.ensures) in
+    record { n_le_longest_capture = omega (arith, t.within); k_in_bounds = omega (arith, l.invariant.2.short) }
 
 pub returns-in-Tail : goal.returns-in-Tail
-unfolding next_report
 returns-in-Tail c =
-    let iteration = c.loop-n in
+    let l = c.loop-n in
     let a = c.args in
-    middle-end a.capture.now a.text.now iteration.text iteration.at iteration.k _ iteration.inv.2
-    (ap next_report (sym c.piece-in-Tail-1.given.1) ∙ c.next-piece.ensures) _ _ c.put_tail.ensures
+    middle-end a.capture.now a.text.now l.text l.at l.k _ l.invariant.2
+    (tail-found _ _ c.in-Tail.is c.next-piece.ensures) _ _ c.put_tail.ensures

@@ -1,14 +1,10 @@
 -- `audit::list` meets its contract.
 -- The loop's invariant: the text up to an offset of the capture is written, and the text is that and what is left.
 -- Assumes nothing.
-use mathlib.Core.Path.{◌≡◌, refl, sym, ap, ◌∙◌}
-use Prim.Native.Nat.{◌+◌, ◌-◌, ◌≤◌, ◌<◌}
-use native.Mathlib.Omega.{arith}
+use mathlib.Core.Path.{◌≡◌}
+use Prim.Native.Nat.{◌+◌, ◌-◌, ◌≤◌}
 use lib.ListN.{length}
-use borrow.Author.Rules.{rules}
-use Rattle.plain.specs.Answers.{NextReport, next_report, piece_at}
-use Rattle.plain.proofs.Steps.{at-frame, at_tail}
-use Rattle.audit.proofs.Lines.{Middle, middle-start, middle-next, middle-end}
+use Rattle.audit.proofs.Lines.{Middle}
 use Rattle.audit.proofs.list.Given as goal
 
 abbrev pub invariant-loop-n : goal.invariant-loop-n

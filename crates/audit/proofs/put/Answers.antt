@@ -1,6 +1,5 @@
 -- `audit::put` meets its contract.
 -- Assumes nothing.
-use borrow.Author.Rules.{rules}
 use Rattle.audit.proofs.Lines.{wrote-copy}
 use Rattle.audit.proofs.put.Goals as goal
 

@@ -1,7 +1,6 @@
 -- `audit::put_answer` meets its contract: each arm puts what the definition's line has.
 -- Assumes nothing.
 use native.Mathlib.Omega.{arith}
-use borrow.Author.Rules.{rules}
 use Rattle.plain.specs.Answers.{plain_verdict}
 use Rattle.audit.specs.Text.{digits_within, decimal, word}
 use Rattle.audit.proofs.put_answer.Goals as goal
@@ -10,30 +9,28 @@ pub returns-in-Message : goal.returns-in-Message
 unfolding plain_verdict word decimal digits_within
 returns-in-Message c =
     let wrote = c.put.ensures in
-    rw c.enum_told-1.given.1 (wrote, omega (arith, wrote.ends))
+    rw c.in-Message.is (record { wrote = wrote; upper_bound = omega (arith, wrote.ends) })
 
 pub returns-in-BadForm : goal.returns-in-BadForm
 unfolding plain_verdict word decimal digits_within
 returns-in-BadForm c =
     let wrote = c.put-in-BadForm.ensures in
-    rw c.enum_told-in-BadForm-1.given.1 (wrote, omega (arith, wrote.ends))
+    rw c.in-BadForm.is (record { wrote = wrote; upper_bound = omega (arith, wrote.ends) })
 
 pub returns-in-BadLength : goal.returns-in-BadLength
 unfolding plain_verdict word decimal digits_within
 returns-in-BadLength c =
     let wrote = c.put-in-BadLength.ensures in
-    rw c.enum_told-in-BadLength-1.given.1 (wrote, omega (arith, wrote.ends))
+    rw c.in-BadLength.is (record { wrote = wrote; upper_bound = omega (arith, wrote.ends) })
 
 pub returns-in-BadChecksum : goal.returns-in-BadChecksum
 unfolding plain_verdict word decimal digits_within
 returns-in-BadChecksum c =
     let wrote = c.put-in-BadChecksum.ensures in
-    rw c.enum_told-in-BadChecksum-1.given.1 (wrote, omega (arith, wrote.ends))
+    rw c.in-BadChecksum.is (record { wrote = wrote; upper_bound = omega (arith, wrote.ends) })
 
 pub returns-in-BadMagic : goal.returns-in-BadMagic
 unfolding plain_verdict word decimal digits_within
 returns-in-BadMagic c =
     let wrote = c.put-in-BadMagic.ensures in
-    rw c.enum_told-in-BadMagic-1.given.1 (wrote, omega (arith, wrote.ends))
-
--- TODO: 25 answers for 20 goals; new goals: ['enum_told-1', 'put-requires', 'enum_told-in-BadForm', 'put-requires-in-BadForm', 'enum_told-in-BadLength', 'put-requires-in-BadLength', 'enum_told-in-BadChecksum', 'put-requires-in-BadChecksum', 'enum_told-in-BadMagic', 'put-requires-in-BadMagic', 'shape_of-text-in-Message', 'returns-in-Message', 'shape_of-text-in-BadForm', 'returns-in-BadForm', 'shape_of-text-in-BadLength', 'returns-in-BadLength', 'shape_of-text-in-BadChecksum', 'returns-in-BadChecksum', 'shape_of-text-in-BadMagic', 'returns-in-BadMagic']
+    rw c.in-BadMagic.is (record { wrote = wrote; upper_bound = omega (arith, wrote.ends) })

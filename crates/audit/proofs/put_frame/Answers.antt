@@ -3,7 +3,6 @@
 use Prim.Native.Nat.{◌<◌}
 use native.Mathlib.Nat.{add-sub_cancel_left}
 use native.Mathlib.Omega.{arith}
-use borrow.Author.Rules.{rules}
 use lib.ListN.{length}
 use Rattle.octets.specs.Bytes.{run}
 use Rattle.octets.proofs.Overlay.{length_run}
@@ -16,15 +15,15 @@ pub returns-then-n-eq0 : goal.returns-then-n-eq0
 unfolding listed_frame lines
 returns-then-n-eq0 c =
     let a = c.args in
-    rw c.if-n-eq0.true (wrote_none a.text.now a.k, omega arith)
+    rw c.if-n-eq0.true (record { wrote = wrote_none a.text.now a.k; upper_bound = omega arith })
 
 pub returns : goal.returns
 returns c =
     let a = c.args in
     let long = length_run a.at a.n a.capture.now (omega arith) in
-    let report = rw add-sub_cancel_left at c.judged-answer.ensures.0 in
+    let report = rw add-sub_cancel_left at c.judged-answer.ensures.message_after in
     let some : 0 < length (run a.at a.n a.capture.now) = omega (arith, c.if-n-eq0.false) in record {
       wrote = rw (frame-line a.at (run a.at a.n a.capture.now) _ _ some report)
-          at (wrote_then c.put_number-end.ensures.0 c.put_answer.ensures.0);
+          at (wrote_then c.put_number-end.ensures.wrote c.put_answer.ensures.wrote);
       upper_bound = omega arith;
     }

@@ -1,6 +1,5 @@
 -- `audit::put_tail` meets its contract.
 -- Assumes nothing.
-use borrow.Author.Rules.{rules}
 use Rattle.audit.specs.Text.{tail_line}
 use Rattle.audit.proofs.Lines.{wrote_then}
 use Rattle.audit.proofs.put_tail.Goals as goal
@@ -8,6 +7,4 @@ use Rattle.audit.proofs.put_tail.Goals as goal
 pub returns : goal.returns
 unfolding tail_line
 returns c =
-    wrote_then c.put-begin.ensures (wrote_then c.put_number-end.ensures.0 c.put.ensures)
-
--- TODO: 7 answers for 5 goals; new goals: ['put-begin-requires', 'put_number-end-requires', 'put-requires', 'shape_of-text', 'returns']
+    wrote_then c.put-begin.ensures (wrote_then c.put_number-end.ensures.wrote c.put.ensures)

@@ -153,7 +153,7 @@ module _ {A : Type 0} where
   among-among a over = a
   among-among a (lost b) = lost (among-among a b)
   among-among (lost a) (came b) = lost (among-among a b)
-  among-among (came a) (came b) = came (among-among a b)
+  among-among (came {x = x} {xs = xs} a) (came {xs = ys} {ys = zs} b) = came (among-among {xs = xs} a b)
 
   pub among-append : {xs ys vs ws : List A} → Among A xs ys → Among A vs ws → Among A (xs ++ vs) (ys ++ ws)
   among-append over b = b

@@ -1,6 +1,5 @@
 -- `counters::failed` meets its contract: the counter of the reason, by the tests of the code.
 -- Assumes nothing.
-use borrow.Author.Rules.{rules}
 use borrow.Author.Tests.{ne_eqb}
 use Rattle.counters.specs.Ended.{step_report}
 use Rattle.counters.specs.Count.{bumped_for}

@@ -1,6 +1,5 @@
 -- `counters::one_more` meets its contract.
 -- Assumes nothing.
-use borrow.Author.Rules.{rules}
 use borrow.Author.Tests.{le-ltb, lt-ltb}
 use Rattle.counters.specs.Count.{one_more}
 use Rattle.counters.proofs.one_more.Goals as goal

@@ -1,11 +1,9 @@
 -- `plain::checksum` meets its contract. The loop keeps what the two sums come to over the bytes that are left.
 -- Assumes nothing.
-use mathlib.Core.Path.{◌≡◌, refl}
-use Prim.Native.Nat.{◌-◌, ◌<◌}
+use mathlib.Core.Path.{refl}
 use native.Mathlib.Omega.{arith}
-use lib.ListN.{length, drop}
 use borrow.Author.Rules.{rules}
-use Rattle.line.specs.Checksum.{sums, checksum}
+use Rattle.line.specs.Checksum.{checksum}
 use Rattle.line.proofs.Checksum.{sums-end}
 use Rattle.plain.proofs.Tests.{sums_next}
 use Rattle.plain.proofs.checksum.Goals as goal

@@ -1,12 +1,10 @@
 -- `plain::decode` meets its contract.
 -- The loop's invariant: the bytes decoded so far stand at the start of out, and the form decodes to them and what is left.
 -- Assumes nothing.
-use mathlib.Core.Path.{◌≡◌, refl, sym, ◌∙◌}
+use mathlib.Core.Path.{◌≡◌}
 use Prim.Native.Nat.{◌-◌, ◌≤◌}
-use native.Mathlib.Omega.{arith}
-use lib.ListN.{length, length-set}
-use borrow.Author.Rules.{rules}
-use Rattle.plain.proofs.Groups.{Middle, middle-start, middle-byte, middle-code, stop-zero, stop-last, stop-past, stop-end}
+use lib.ListN.{length}
+use Rattle.plain.proofs.Groups.{Middle}
 use Rattle.plain.proofs.decode.Given as goal
 
 abbrev pub invariant-loop-i : goal.invariant-loop-i

@@ -1,6 +1,5 @@
 -- `plain::last_one_after_full` meets its contract.
 -- Assumes nothing.
-use borrow.Author.Rules.{rules}
 use Rattle.plain.proofs.Groups.{last-other, last-longer, last_byte}
 use Rattle.plain.proofs.last_one_after_full.Goals as goal
 

@@ -1,9 +1,6 @@
 -- `plain::next` meets its contract. The loop's invariant: no byte up to i is zero.
 -- Assumes nothing.
-use Prim.Native.Nat.{◌-◌}
-use lib.ListN.{length}
-use borrow.Author.Rules.{rules}
-use Rattle.plain.proofs.Offsets.{Reached, reached-start, reached-more, reached-zero, reached-end}
+use Rattle.plain.proofs.Offsets.{reached-start, reached-more, reached-zero, reached-end}
 use Rattle.plain.proofs.next.Goals as goal
 
 pub loop-i-init : goal.loop-i-init

@@ -2,8 +2,7 @@
 -- Assumes nothing.
 use Prim.Native.Nat.{◌-◌}
 use lib.ListN.{length}
-use borrow.Author.Rules.{rules}
-use Rattle.plain.proofs.Offsets.{Reached, reached-start, reached-more, reached-zero, reached-end}
+use Rattle.plain.proofs.Offsets.{Reached}
 use Rattle.plain.proofs.next.Given as goal
 
 abbrev pub invariant-loop-i : goal.invariant-loop-i

@@ -2,7 +2,6 @@
 -- Assumes nothing.
 use mathlib.Core.Path.{refl, sym}
 use native.Mathlib.Nat.{add-zero}
-use borrow.Author.Rules.{rules}
 use Rattle.octets.proofs.Overlay.{overlay-one, overlay-none}
 use Rattle.plain.proofs.put_zero.Goals as goal
 

@@ -1,12 +1,7 @@
 -- `probes::changes_are_good` meets its contract: the whole test comes to that of the changes from offset i on.
 -- Assumes nothing.
-use mathlib.Core.Path.{◌≡◌, sym, ◌∙◌}
-use Prim.Native.Nat.{◌-◌}
+use mathlib.Core.Path.{sym, ◌∙◌}
 use native.Mathlib.Omega.{arith}
-use lib.ListN.{length, drop}
-use borrow.Author.Rules.{rules}
-use borrow.Author.Tests.{not-true, not-false}
-use Rattle.probes.specs.Probes.{probe_changes, all_good, good}
 use Rattle.probes.proofs.Tests.{other-lengths, equal-lengths, good-here, bad-here, good-end}
 use Rattle.probes.proofs.changes_are_good.Goals as goal
 
@@ -21,13 +16,13 @@ loop-i-init c =
 pub returns-then-not-is_good : goal.returns-then-not-is_good
 returns-then-not-is_good c =
     sym (c.loop-i.invariant.1
-    ∙ bad-here _ _ _ _ c.loop-i-test.true (omega arith) (sym c.is_good.ensures ∙ not-true _ c.if-not-is_good.true))
+    ∙ bad-here _ _ _ _ c.loop-i-test.true (omega arith) (sym c.is_good.ensures ∙ c.if-not-is_good.true))
 
 pub loop-i-preserved : goal.loop-i-preserved
 loop-i-preserved c = (
   c.loop-i.invariant.0,
   c.loop-i.invariant.1
-      ∙ good-here _ _ _ _ c.loop-i-test.true (omega arith) (sym c.is_good.ensures ∙ not-false _ c.if-not-is_good.false),
+      ∙ good-here _ _ _ _ c.loop-i-test.true (omega arith) (sym c.is_good.ensures ∙ c.if-not-is_good.false),
 )
 
 pub returns : goal.returns

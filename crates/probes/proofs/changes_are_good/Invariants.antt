@@ -1,13 +1,9 @@
 -- `probes::changes_are_good` meets its contract: the whole test comes to that of the changes from offset i on.
 -- Assumes nothing.
-use mathlib.Core.Path.{◌≡◌, sym, ◌∙◌}
+use mathlib.Core.Path.{◌≡◌}
 use Prim.Native.Nat.{◌-◌}
-use native.Mathlib.Omega.{arith}
 use lib.ListN.{length, drop}
-use borrow.Author.Rules.{rules}
-use borrow.Author.Tests.{not-true, not-false}
 use Rattle.probes.specs.Probes.{probe_changes, all_good, good}
-use Rattle.probes.proofs.Tests.{other-lengths, equal-lengths, good-here, bad-here, good-end}
 use Rattle.probes.proofs.changes_are_good.Given as goal
 
 abbrev pub invariant-loop-i : goal.invariant-loop-i

@@ -21,12 +21,12 @@ returns-then-out-kept-lt-MOST_PENDING c =
 pub take_behind-kept-requires : goal.take_behind-kept-requires
 take_behind-kept-requires c =
     let iteration = c.loop-i in
-    omega (arith, c.if-out-kept-lt-MOST_PENDING.left, iteration.inv.5.fits)
+    omega (arith, c.if-out-kept-lt-MOST_PENDING.false, iteration.invariant.5.fits)
 
 pub overflow_add-kept : goal.overflow_add-kept
 overflow_add-kept c =
     let iteration = c.loop-i in
-    omega (arith, count-short _ c.take_behind-kept.ensures.0, c.if-out-kept-lt-MOST_PENDING.left, iteration.inv.5.fits)
+    omega (arith, count-short _ c.take_behind-kept.ensures.value, c.if-out-kept-lt-MOST_PENDING.false, iteration.invariant.5.fits)
 
 pub loop-i-preserved : goal.loop-i-preserved
 loop-i-preserved c =
@@ -36,8 +36,8 @@ loop-i-preserved c =
       search rules,
       search rules,
       search rules,
-      feeding-next iteration.inv.5 c.loop-i-test.taken (omega arith) _ c.receive.ensures
-          c.take_behind-kept.ensures.0 c.take_behind-kept.ensures.1.0 c.take_behind-kept.ensures.1.1,
+      feeding-next iteration.invariant.5 c.loop-i-test.true (omega arith) _ c.receive.ensures
+          c.take_behind-kept.ensures.value c.take_behind-kept.ensures.outbox_after c.take_behind-kept.ensures.out_after,
     )
 
 pub returns : goal.returns

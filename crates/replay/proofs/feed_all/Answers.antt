@@ -1,34 +1,52 @@
--- `replay::feed_all` meets its contract. The loop's invariant: the bytes up to an offset were replayed; each iteration reads some.
+-- `replay::feed_all` meets its contract.
 -- Assumes nothing.
 use mathlib.Core.Path.{◌≡◌, refl, sym}
-use mathlib.Core.List.{[]}
-use Prim.Native.Nat.{◌-◌, ◌≤◌}
 use native.Mathlib.Omega.{arith}
 use borrow.Author.Rules.{rules}
 use lib.ListN.{length, take}
 use lib.Seq.{take_all, length-take-le}
-use Rattle.supervisor.specs.Calls.{parts}
+use Rattle.std.proofs.KnownBytes.{Appends-nil, Appends-trans}
 use Rattle.responder.specs.Replay.{replay_bytes}
 use Rattle.replay.proofs.Feeding.{FedOn, fed-on}
 use Rattle.replay.proofs.feed_all.Goals as goal
 
 pub loop-at-init : goal.loop-at-init
 unfolding replay_bytes
-loop-at-init c =
-    (refl, refl, refl, refl, refl, search rules, refl)
+loop-at-init g c =
+    (omega arith, refl, Appends-nil _)
 
 pub slice_bounds-write_all-end : goal.slice_bounds-write_all-end
-slice_bounds-write_all-end c =
-    ((let fed-here : let at-loop = ⟦At-loop⟧ in let a = (start at-loop).args in let left = c.feed-fed.new in FedOn a.bytes.now (parts a.reader.now a.outbox.now a.factory.now a.settings.now a.registers.now) at-loop.loop.at c.feed-fed.result left.1.0 (parts left.1.1.0 left.1.1.1.0 a.factory.now left.1.1.1.1.1.0 left.1.1.1.1.1.1.0) = let iteration = c.loop-at in
-    let long = c.pre in
-    fed-on _ _ c.feed-fed.result c.loop-at-test.true (omega arith) iteration.inv.6 c.feed-fed.ensures in fed-here)).fits
+slice_bounds-write_all-end g c =
+    let l = c.loop-at in
+    let f = fed-on _ _ c.feed-fed.result c.loop-at-test.true (omega arith) l.invariant.1 c.feed-fed.ensures in
+    f.fits
+
+pub slice_bounds-write_all-end-in-loop-at : goal.slice_bounds-write_all-end-in-loop-at
+slice_bounds-write_all-end-in-loop-at g c =
+    let l = c.loop-at in
+    let f = fed-on _ _ c.feed-fed.result c.loop-at-test.true (omega arith) l.invariant.1 c.feed-fed.ensures in
+    sym (length-take-le _ _ f.fits)
+
+pub overflow_add-at : goal.overflow_add-at
+overflow_add-at g c =
+    let l = c.loop-at in
+    let f = fed-on _ _ c.feed-fed.result c.loop-at-test.true (omega arith) l.invariant.1 c.feed-fed.ensures in
+    omega (arith, f.within)
+
+pub loop-at-smaller : goal.loop-at-smaller
+loop-at-smaller g c =
+    let l = c.loop-at in
+    let f = fed-on _ _ c.feed-fed.result c.loop-at-test.true (omega arith) l.invariant.1 c.feed-fed.ensures in
+    omega (arith, f.some, f.within)
+
+pub loop-at-preserved : goal.loop-at-preserved
+loop-at-preserved g c =
+    let l = c.loop-at in
+    let f = fed-on _ _ c.feed-fed.result c.loop-at-test.true (omega arith) l.invariant.1 c.feed-fed.ensures in
+    (f.within, f.leaves, rw f.adds (Appends-trans _ _ _ _ _ l.invariant.2 c.in_ok-write_all.ensures.bytes))
 
 pub returns : goal.returns
-returns c =
-    let iteration = c.loop-at in rw (take_all iteration.at _ c.loop-at-test.false) at iteration.invariant.6
-    -- TODO a place is left in slice_bounds-write_all-end
-    -- TODO slice_bounds-write_all-end-in-loop-at: no step loop at After-slice_known5: sym (length-take-le _ _ (fed (at-feed c.before)).fits)
-    -- TODO overflow_add-at: no step loop at After-slice_known5: omega (arith, (fed (at-feed c.before.before)).within)
-    -- TODO loop-at-smaller: no step loop at After-slice_known5: let f = fed (at-feed c.before.before) in omega (arith, f.some, f.within)
-    -- TODO loop-at-preserved: no step loop at After-slice_known5: let f = fed (at-feed c.before.before) in
-    (search rules, search rules, search rules, search rules, search rules, f.within, f.leaves)
+returns g c =
+    let l = c.loop-at in
+    let e = take_all l.at c.args.bytes.now (omega arith) in
+    record { left = rw e at l.invariant.1; written = rw e at l.invariant.2 }

@@ -7,17 +7,18 @@ use native.Mathlib.Omega.{arith}
 use borrow.Author.Rules.{rules}
 use lib.ListN.{length, take}
 use lib.Seq.{take_all, length-take-le}
+use Rattle.std.specs.Io.KnownBytes.{Appends}
 use Rattle.supervisor.specs.Calls.{parts}
 use Rattle.responder.specs.Replay.{replay_bytes}
 use Rattle.replay.proofs.Feeding.{FedOn, fed-on}
 use Rattle.replay.proofs.feed_all.Given as goal
 
 abbrev pub invariant-loop-at : goal.invariant-loop-at
-invariant-loop-at l =
-    (length l.out ≡ length l.initial.out) × (length l.reader ≡ length l.initial.reader) × (length l.outbox ≡ length l.initial.outbox) × (length l.settings ≡ length l.initial.settings)
-    × (length l.registers ≡ length l.initial.registers) × (l.at ≤ length l.bytes)
-    × (parts l.reader l.outbox l.factory l.settings l.registers
-    ≡ (replay_bytes [] (parts l.initial.reader l.initial.outbox l.factory l.initial.settings l.initial.registers) (take l.at l.bytes)).parts)
+invariant-loop-at g l =
+    let p = parts l.initial.reader l.initial.outbox l.factory l.initial.settings l.initial.registers in
+    (l.at ≤ length l.bytes)
+    × (parts l.reader l.outbox l.factory l.settings l.registers ≡ (replay_bytes [] p (take l.at l.bytes)).parts)
+    × Appends (g.W.Write.contents l.initial.output) (g.W.Write.contents l.output) (replay_bytes [] p (take l.at l.bytes)).taken
 
 abbrev pub decreases-loop-at : goal.decreases-loop-at
-decreases-loop-at l = length l.bytes - l.at
+decreases-loop-at g l = length l.bytes - l.at

@@ -8,10 +8,10 @@ pub returns-in-Refused : goal.returns-in-Refused
 returns-in-Refused c =
     let a = c.args in
     let laws = took-behind a.outbox.now a.out.now a.at (search rules) _ c.take-taken.ensures in
-    (laws.refused c.enum_told-1.given.1, laws.left)
+    record { value = laws.refused c.in-Refused.is; outbox_after = laws.left.0; out_after = laws.left.1 }
 
 pub returns-in-Moved : goal.returns-in-Moved
 returns-in-Moved c =
     let a = c.args in
     let laws = took-behind a.outbox.now a.out.now a.at (search rules) _ c.take-taken.ensures in
-    (laws.moved c.taken-1.given.1, laws.left)
+    record { value = laws.moved c.in-Moved.is; outbox_after = laws.left.0; out_after = laws.left.1 }

@@ -166,8 +166,8 @@ module _ (p : Parts) (b : Bytes p) (l : Lent) (d : List ℕ) (typed : Typed (His
       (stream-answers h (received_since_all [] ms) (origin k ms) state (by_frames (factory_of d) ms).2 (state_holds h.key) (origin-low k)
       image bs version n most i v)
 
-  pub set-answered : SetAnswered ms (reached p l d ms)
-  set-answered version n k v i j image bs c e u =
+  pub set_answered : SetAnswered ms (reached p l d ms)
+  set_answered version n k v i j image bs c e u =
       let w = received_since_all [] ms in
       let a = frames_carried image state (frames_closed_by w bs) in
       let x = origin_behind k ms bs in

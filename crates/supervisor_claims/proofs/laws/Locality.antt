@@ -20,7 +20,7 @@ use Rattle.supervisor.specs.Calls.{Parts}
 use Rattle.supervisor.proofs.ValidLaws.{OutboxValid, FactoryValid, RegistersValid}
 use Rattle.supervisor.proofs.ValidLaws.{outbox-valid, valid-outbox, factory-valid, valid-factory, settings-valid, valid-settings}
 use Rattle.supervisor.proofs.ValidLaws.{registers-valid, setting_kept}
-use Rattle.supervisor.proofs.ValidLaws.{start-good, good_start}
+use Rattle.supervisor.proofs.ValidLaws.{start-good, good_start_lem}
 use Rattle.supervisor.proofs.KeptRegisters.{groups-valid, numbers-kept, flags-kept, failure-kept, panic-kept, waiting_kept, retained-kept}
 use Rattle.supervisor.proofs.OffsetLaws.{offset-within}
 use Rattle.supervisor_claims.specs.ByPart.{Part, published, part, Every}
@@ -66,7 +66,7 @@ module _ {f g : List ℕ} (same : Same 0 Layout.factory-length f g) (v : Factory
       valid-factory g
       (record {
         long = h;
-        start = start-good g (good-bad g (omega arith) ∙ rw (contents-alike, ← good-bad f (omega arith)) (good_start f v.start));
+        start = start-good g (good-bad g (omega arith) ∙ rw (contents-alike, ← good-bad f (omega arith)) (good_start_lem f v.start));
         version = number_same same 4 Layout.inventory_version_offset (omega arith) ∙ v.version;
         text = same.runs Layout.pong_offset 4 (omega arith) ∙ v.text;
       })

@@ -1,6 +1,5 @@
 -- `copy_group` meets its contract.
 -- Assumes nothing.
-use borrow.Author.Rules.{rules}
 use native.Mathlib.Omega.{arith}
 use lib.ListN.{drop}
 use Rattle.line.proofs.Runs.{nonzero-most}

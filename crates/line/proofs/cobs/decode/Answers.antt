@@ -1,12 +1,11 @@
 -- `cobs::decode` meets its contract. The loop's invariant: the bytes decoded so far stand at the start, the others are as they were.
 -- Assumes nothing.
-use mathlib.Core.Path.{◌≡◌, refl, ap, ◌∙◌}
-use Prim.Native.Nat.{ℕ, min, ◌+◌, ◌-◌, ◌≤◌}
-use lib.ListN.{length}
+use mathlib.Core.Path.{refl, ap, ◌∙◌}
+use Prim.Native.Nat.{ℕ, min, ◌+◌, ◌-◌}
 use borrow.Author.Rules.{rules}
 use native.Mathlib.Omega.{arith}
 use Rattle.line.proofs.Alike.{put-no-byte}
-use Rattle.line.proofs.InPlace.{Middle, middle-start, middle-next, middle-end, middle-ones}
+use Rattle.line.proofs.InPlace.{middle-start, middle-next, middle-end, middle-ones}
 use Rattle.line.proofs.cobs.decode.Goals as goal
 
 pub loop-i-init : goal.loop-i-init
@@ -20,15 +19,13 @@ put_zeros-ones-requires c =
 -- code bytes 01
 pub loop-i-preserved-then-ones-gt0 : goal.loop-i-preserved-then-ones-gt0
 loop-i-preserved-then-ones-gt0 c =
-    let at-loop = ⟦At-loop⟧ in
-    let iteration = at-loop.loop in
-    let start = start_of at-loop in
+    let iteration = c.loop-i in
     let ones = c.put_zeros-ones.ensures in (
       ones.1,
       search rules,
       rw ones.3
-          (middle-ones start.args.s.now start.args.n iteration.s iteration.zero iteration.o iteration.i
-          c.put_zeros-ones.result (ones.0 c.if-ones-gt0.true) iteration.inv.2 ones.1 start.pre ones.2),
+          (middle-ones c.args.s.now c.args.n iteration.s iteration.zero iteration.o iteration.i
+          c.put_zeros-ones.result (ones.0 c.if-ones-gt0.true) iteration.invariant.2 ones.1 c.requires ones.2),
     )
 
 -- a group
@@ -41,7 +38,7 @@ loop-i-preserved c =
       rw (c.move_down.ensures, c.put_held.ensures, c.held-o.ensures.0, e)
           (middle-next c.args.s.now c.args.n iteration.s iteration.zero iteration.o iteration.i
           c.code-c.result c.smaller-k.result
-          iteration.inv.2 c.loop-i-test.taken c.pre (rw e at c.code-c.ensures.0)
+          iteration.invariant.2 c.loop-i-test.true c.requires (rw e at c.code-c.ensures.0)
           (c.smaller-k.ensures
           ∙ ap (λ (m : ℕ). min m (c.args.n - (iteration.i + 1))) c.less_one.ensures)),
     )
@@ -50,6 +47,4 @@ pub returns : goal.returns
 returns c =
     let iteration = c.loop-i in
     middle-end c.args.s.now c.args.n iteration.s iteration.zero iteration.o iteration.i
-    iteration.invariant.2 c.loop-i-test.false c.pre
-
--- TODO a place is left in loop-i-preserved-then-ones-gt0
+    iteration.invariant.2 c.loop-i-test.false c.requires

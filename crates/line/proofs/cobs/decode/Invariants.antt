@@ -1,12 +1,9 @@
 -- `cobs::decode` meets its contract. The loop's invariant: the bytes decoded so far stand at the start, the others are as they were.
 -- Assumes nothing.
-use mathlib.Core.Path.{◌≡◌, refl, ap, ◌∙◌}
-use Prim.Native.Nat.{ℕ, min, ◌+◌, ◌-◌, ◌≤◌}
+use mathlib.Core.Path.{◌≡◌}
+use Prim.Native.Nat.{◌-◌, ◌≤◌}
 use lib.ListN.{length}
-use borrow.Author.Rules.{rules}
-use native.Mathlib.Omega.{arith}
-use Rattle.line.proofs.Alike.{put-no-byte}
-use Rattle.line.proofs.InPlace.{Middle, middle-start, middle-next, middle-end, middle-ones}
+use Rattle.line.proofs.InPlace.{Middle}
 use Rattle.line.proofs.cobs.decode.Given as goal
 
 abbrev pub invariant-loop-i : goal.invariant-loop-i

@@ -1,30 +1,14 @@
 -- `cobs::decoded_length` meets its contract. The loop's invariant: the measured whole is what is counted with the groups that are left.
 -- Assumes nothing.
 use mathlib.Core.Path.{◌≡◌, sym, ap, ◌∙◌}
-use mathlib.Core.Bool.{true, false}
-use Prim.Native.Nat.{ℕ, ◌+◌, ◌-◌, ◌≤◌, ◌<◌}
+use Prim.Native.Nat.{◌-◌}
 use native.Mathlib.Omega.{arith}
 use lib.Dec.{leb}
-use lib.ListN.{take, replicate}
 use borrow.Author.Rules.{rules}
-use Rattle.octets.specs.Bytes.{run}
 use Rattle.line.specs.declared.cobs.Measured.TheVariants.{Length}
-use Rattle.line.specs.Cobs.{uncobs}
-use Rattle.line.specs.Decoding.{one_if, measured}
-use Rattle.line.proofs.Decoding.{one-if-not, Counted, decoded_of, counted_start, counted-zero, counted-short, counted-last}
+use Rattle.line.proofs.Decoding.{one-if-not, decoded_of, counted_start, counted-zero, counted-short, counted-last}
 use Rattle.line.proofs.Decoding.{counted-group, counted-ones, counted-end}
 use Rattle.line.proofs.cobs.decoded_length.Goals as goal
-
--- j code bytes 01
-ones : (c : tie.At-loop invariant-loop decreases-loop) (j : ℕ) → let a = (start-from-loop c).args in let l = c.loop in 0 < j → l.i + j ≤ a.n
-    → run l.i j a.s.now ≡ replicate j 1 → invariant-loop a.s.now a.n 0 false 0 l.full true (l.i + j)
-ones c j p h r =
-    let a = (start-from-loop c).args in
-    let l = c.loop in (
-      h,
-      omega arith,
-      l.invariant.2 ∙ counted-ones a.s.now a.n l.i l.full l.zero l.invariant.1 j p h r,
-    )
 
 pub loop-i-init : goal.loop-i-init
 loop-i-init c =
@@ -42,37 +26,41 @@ loop-i-smaller-then-alike-2 c =
 pub loop-i-preserved-then-alike-2 : goal.loop-i-preserved-then-alike-2
 loop-i-preserved-then-alike-2 c =
     let found = c.alike-then-alike.ensures c.if-alike-2.true in
-    ones ⟦At-loop⟧ 32 (omega arith) found.0 found.1
+    let a = c.args in
+    let l = c.loop-i in
+    (found.0, omega arith, l.invariant.2 ∙ counted-ones a.s.now a.n l.i l.full l.zero l.invariant.1 32 (omega arith) found.0 found.1)
 
 -- one
 pub loop-i-preserved-else-alike-2 : goal.loop-i-preserved-else-alike-2
 loop-i-preserved-else-alike-2 c =
     let found = c.alike.ensures c.if-alike.true in
-    ones ⟦At-loop⟧ 1 (omega arith) found.0 found.1
+    let a = c.args in
+    let l = c.loop-i in
+    (found.0, omega arith, l.invariant.2 ∙ counted-ones a.s.now a.n l.i l.full l.zero l.invariant.1 1 (omega arith) found.0 found.1)
 
 -- a code byte 0
 pub returns-then-c-eq0 : goal.returns-then-c-eq0
 returns-then-c-eq0 c =
     let iteration = c.loop-i in
     counted-zero c.args.s.now c.args.n iteration.i iteration.zero _ c.code-c.result
-    c.loop-i-test.taken c.pre c.code-c.ensures.0 c.if-c-eq0.true
-    ∙ sym iteration.inv.2
+    c.loop-i-test.true c.requires c.code-c.ensures.0 c.if-c-eq0.true
+    ∙ sym iteration.invariant.2
 
 -- a group that runs past the end
 pub returns-then-n-i : goal.returns-then-n-i
 returns-then-n-i c =
     let iteration = c.loop-i in
     counted-short c.args.s.now c.args.n iteration.i iteration.zero _ c.code-c.result
-    c.loop-i-test.taken c.pre c.code-c.ensures.0 c.if-n-i.true
-    ∙ sym iteration.inv.2
+    c.loop-i-test.true c.requires c.code-c.ensures.0 c.if-n-i.true
+    ∙ sym iteration.invariant.2
 
 -- a last 01 after a full group
 pub returns-then-last_one_after_full : goal.returns-then-last_one_after_full
 returns-then-last_one_after_full c =
     let iteration = c.loop-i in
     counted-last c.args.s.now c.args.n iteration.i iteration.zero _ c.code-c.result
-    c.loop-i-test.taken c.pre c.code-c.ensures.0 (sym c.if-last_one_after_full.true ∙ c.last_one_after_full.ensures)
-    ∙ sym iteration.inv.2
+    c.loop-i-test.true c.requires c.code-c.ensures.0 (sym c.if-last_one_after_full.true ∙ c.last_one_after_full.ensures)
+    ∙ sym iteration.invariant.2
 
 -- a group
 pub loop-i-preserved : goal.loop-i-preserved
@@ -81,10 +69,10 @@ loop-i-preserved c =
     let next = one-if-not (leb c.code-c.result 254) in (
       search rules,
       omega arith,
-      rw c.held-full.ensures.0 (iteration.inv.2
-          ∙ counted-group c.args.s.now c.args.n iteration.i iteration.full iteration.zero iteration.inv.1
+      rw c.held-full.ensures.0 (iteration.invariant.2
+          ∙ counted-group c.args.s.now c.args.n iteration.i iteration.full iteration.zero iteration.invariant.1
           c.code-c.result
-          c.loop-i-test.taken c.pre c.code-c.ensures.0 c.if-c-eq0.false c.if-n-i.false
+          c.loop-i-test.true c.requires c.code-c.ensures.0 c.if-c-eq0.false c.if-n-i.false
           (sym c.if-last_one_after_full.false ∙ c.last_one_after_full.ensures)),
     )
 
@@ -95,8 +83,5 @@ returns c =
     let e : c.args.n - iteration.full - c.held.result ≡ decoded_of iteration.i iteration.full iteration.zero =
     omega arith in
     ap Length e
-    ∙ counted-end c.args.s.now c.args.n iteration.i iteration.zero _ c.loop-i-test.false c.pre
+    ∙ counted-end c.args.s.now c.args.n iteration.i iteration.zero _ c.loop-i-test.false c.requires
     ∙ sym iteration.invariant.2
-
--- TODO a place is left in loop-i-preserved-then-alike-2
--- TODO a place is left in loop-i-preserved-else-alike-2

@@ -1,10 +1,7 @@
 -- `form_length` meets its contract. The loop's invariant: o bytes of the form are made of the first i bytes of s.
 -- Assumes nothing.
 use Prim.Native.Nat.{◌*◌, ◌-◌, ◌≤◌}
-use mathlib.Core.Path.{refl}
-use borrow.Author.Rules.{rules}
-use native.Mathlib.Omega.{arith}
-use Rattle.line.proofs.Groups.{Met, NextGroup, next-group, group-last, group-zero, group-full, Zeros, zeros-next}
+use Rattle.line.proofs.Groups.{Met}
 use Rattle.line.proofs.cobs.form_length.Given as goal
 
 abbrev pub invariant-loop-i : goal.invariant-loop-i

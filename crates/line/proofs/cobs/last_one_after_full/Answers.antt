@@ -1,7 +1,6 @@
 -- `cobs::last_one_after_full` meets its contract.
 -- Assumes nothing.
 use native.Mathlib.Omega.{arith}
-use borrow.Author.Rules.{rules}
 use Rattle.line.proofs.Decoding.{last-below, last-others, last_byte}
 use Rattle.line.proofs.cobs.last_one_after_full.Goals as goal
 

@@ -1,11 +1,8 @@
 -- `put_codes` meets its contract. The loop's invariant: k zeros are passed, and their code bytes are put.
 -- Assumes nothing.
-use Prim.Native.Nat.{◌-◌, ◌≤◌}
-use mathlib.Core.Path.{◌≡◌, refl, sym}
+use mathlib.Core.Path.{refl, sym}
 use borrow.Author.Rules.{rules}
 use native.Mathlib.Omega.{arith}
-use lib.ListN.{length, replicate}
-use Rattle.octets.specs.Bytes.{run, overlay}
 use Rattle.octets.proofs.Overlay.{overlay-none}
 use Rattle.line.proofs.Alike.{run-alike, put-alike}
 use Rattle.line.proofs.cobs.put_codes.Goals as goal

@@ -1,6 +1,5 @@
 -- `cobs::put_held` meets its contract.
 -- Assumes nothing.
-use borrow.Author.Rules.{rules}
 use Rattle.line.proofs.cobs.put_held.Goals as goal
 
 pub returns-then-zero : goal.returns-then-zero

@@ -1,13 +1,10 @@
 -- `put_zeros` meets its contract. The loop's invariant: k code bytes 01 are passed, and their zeros are put.
 -- Assumes nothing.
-use Prim.Native.Nat.{ℕ, ◌+◌, ◌-◌, ◌≤◌, ◌<◌}
+use Prim.Native.Nat.{ℕ, ◌+◌}
 use mathlib.Core.Path.{◌≡◌, refl, sym}
-use mathlib.Core.Bool.{true}
 use borrow.Author.Rules.{rules}
-use borrow.Author.Tests.{not-false}
 use native.Mathlib.Omega.{arith}
-use lib.ListN.{length, get_or, replicate, length-replicate}
-use Rattle.octets.specs.Bytes.{run, overlay}
+use lib.ListN.{get_or, replicate, length-replicate}
 use Rattle.octets.proofs.Overlay.{overlay-none, overlay-get_d-after}
 use Rattle.line.proofs.Alike.{run-alike, put-alike}
 use Rattle.line.proofs.cobs.put_zeros.Goals as goal
@@ -25,13 +22,21 @@ put_alike-requires c =
 pub loop-k-init : goal.loop-k-init
 loop-k-init c =
     (search rules, refl, refl, sym (overlay-none _ _))
-    -- TODO returns-then-alike: no step if1 at After-slice_known: let at-alike = c.before.before.before.before.before in
-    let found = at-alike.alike.ensures c.before.before.before.before.if2.true in
-    (λ h. not-false _ at-alike.before.before.if1.false, found.0, found.1, c.before.before.put-alike.ensures)
-    -- TODO returns-then-s-i-ne1: no step if1 at After-slice_known: let at-loop = c.before.before.before in ended at-loop
-    -- TODO loop-k-preserved: before the start: let at-loop = c.before.before.before in
-    let l = at-loop.loop in
-    let a = (else1 at-loop).before.before.args in
+
+pub returns-then-alike : goal.returns-then-alike
+returns-then-alike c =
+    let found = c.alike.ensures c.if-alike.true in
+    (λ h. c.if-not-zero.false, found.0, found.1, c.put_alike.ensures)
+
+pub returns-then-s-i-ne1 : goal.returns-then-s-i-ne1
+returns-then-s-i-ne1 c =
+    let l = c.loop-k in
+    (λ h. c.if-not-zero.false, omega arith, l.invariant.2, l.invariant.3)
+
+pub loop-k-preserved : goal.loop-k-preserved
+loop-k-preserved c =
+    let l = c.loop-k in
+    let a = c.args in
     let m = length-replicate {A = ℕ} l.k 0 in
     let e = overlay-get_d-after a.o (a.i + l.k) 0 (replicate l.k 0) a.s.now (omega arith) (omega arith) in
     let b : get_or a.s.now (a.i + l.k) 0 ≡ 1 = omega (arith, rw (← l.invariant.3) at e) in (
@@ -41,4 +46,7 @@ loop-k-init c =
       rw l.invariant.3 (put-alike 0 a.o l.k a.s.now (omega arith)),
     )
 
--- TODO returns: no step if1 at After-slice_known: ended c.before
+pub returns : goal.returns
+returns c =
+    let l = c.loop-k in
+    (λ h. c.if-not-zero.false, omega arith, l.invariant.2, l.invariant.3)

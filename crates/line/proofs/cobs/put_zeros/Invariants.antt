@@ -1,15 +1,9 @@
 -- `put_zeros` meets its contract. The loop's invariant: k code bytes 01 are passed, and their zeros are put.
 -- Assumes nothing.
-use Prim.Native.Nat.{ℕ, ◌+◌, ◌-◌, ◌≤◌, ◌<◌}
-use mathlib.Core.Path.{◌≡◌, refl, sym}
-use mathlib.Core.Bool.{true}
-use borrow.Author.Rules.{rules}
-use borrow.Author.Tests.{not-false}
-use native.Mathlib.Omega.{arith}
-use lib.ListN.{length, get_or, replicate, length-replicate}
+use Prim.Native.Nat.{◌-◌, ◌≤◌}
+use mathlib.Core.Path.{◌≡◌}
+use lib.ListN.{length, replicate}
 use Rattle.octets.specs.Bytes.{run, overlay}
-use Rattle.octets.proofs.Overlay.{overlay-none, overlay-get_d-after}
-use Rattle.line.proofs.Alike.{run-alike, put-alike}
 use Rattle.line.proofs.cobs.put_zeros.Given as goal
 
 abbrev pub invariant-loop-k : goal.invariant-loop-k

@@ -1,8 +1,7 @@
 -- `line::reader::ahead` meets its contract. The loop's invariant: the bytes that are passed are not zero.
 -- Assumes nothing.
 use mathlib.Core.Path.{◌≡◌, sym, ap, ◌∙◌}
-use mathlib.Core.List.{List}
-use Prim.Native.Nat.{ℕ, ◌+◌, ◌-◌, ◌≤◌}
+use Prim.Native.Nat.{ℕ, ◌+◌}
 use native.Mathlib.Omega.{arith}
 use borrow.Author.Rules.{rules}
 use lib.ListN.{length, drop, length-drop}
@@ -18,38 +17,54 @@ loop-at-init c =
 -- a part lies within the piece
 pub nonzero_run-k-requires : goal.nonzero_run-k-requires
 nonzero_run-k-requires c =
-    let p = (c.args.piece.now) in
+    let p = c.args.piece.now in
     let at = c.loop-at.at in
     (rw (rest-mid p at) (omega (arith, length-drop at p)), omega arith)
 
 pub overflow_add-at : goal.overflow_add-at
 overflow_add-at c =
-    omega (arith, (let most-here : c.nonzero_run-k.result ≤ c.min-n.result = omega (arith, (let found-here : c.nonzero_run-k.result ≡ length (nonzero c.min-n.result (drop c.loop-at.at ((c.args.piece.now)))) = cc (rest-mid ((c.args.piece.now)) c.loop-at.at) in found-here), nonzero-most c.min-n.result (drop c.loop-at.at ((c.args.piece.now)))) in most-here))
+    let l = c.loop-at in
+    let p = c.args.piece.now in
+    let n = c.min-n.result in
+    let k = c.nonzero_run-k.result in
+    let e : k ≡ length (nonzero n (drop l.at p)) = cc (rest-mid p l.at) in
+    let most = nonzero-most n (drop l.at p) in
+    omega arith
 
 pub returns-then-k-n : goal.returns-then-k-n
 returns-then-k-n c =
     let l = c.loop-at in
-    let p = (c.args.piece.now) in
-    let e = (let found-here : c.nonzero_run-k.result ≡ length (nonzero c.min-n.result (drop c.loop-at.at ((c.args.piece.now)))) = cc (rest-mid ((c.args.piece.now)) c.loop-at.at) in found-here) in
-    omega (arith, l.inv.1, reached-stop (length p) l.at c.min-n.result p (omega arith) (omega arith))
+    let p = c.args.piece.now in
+    let n = c.min-n.result in
+    let k = c.nonzero_run-k.result in
+    let e : k ≡ length (nonzero n (drop l.at p)) = cc (rest-mid p l.at) in
+    omega (arith, l.invariant.1, reached-stop (length p) l.at n p (omega arith) (omega arith))
 
 pub loop-at-smaller : goal.loop-at-smaller
 loop-at-smaller c =
-    omega (arith, (let most-here : c.nonzero_run-k.result ≤ c.min-n.result = omega (arith, (let found-here : c.nonzero_run-k.result ≡ length (nonzero c.min-n.result (drop c.loop-at.at ((c.args.piece.now)))) = cc (rest-mid ((c.args.piece.now)) c.loop-at.at) in found-here), nonzero-most c.min-n.result (drop c.loop-at.at ((c.args.piece.now)))) in most-here))
+    let l = c.loop-at in
+    let p = c.args.piece.now in
+    let n = c.min-n.result in
+    let k = c.nonzero_run-k.result in
+    let e : k ≡ length (nonzero n (drop l.at p)) = cc (rest-mid p l.at) in
+    let most = nonzero-most n (drop l.at p) in
+    omega arith
 
 pub loop-at-preserved : goal.loop-at-preserved
 loop-at-preserved c =
     let l = c.loop-at in
-    let p = (c.args.piece.now) in
+    let p = c.args.piece.now in
     let n = c.min-n.result in
-    let e : n ≡ c.nonzero_run-k.result = omega (arith, (let most-here : c.nonzero_run-k.result ≤ c.min-n.result = omega (arith, (let found-here : c.nonzero_run-k.result ≡ length (nonzero c.min-n.result (drop c.loop-at.at ((c.args.piece.now)))) = cc (rest-mid ((c.args.piece.now)) c.loop-at.at) in found-here), nonzero-most c.min-n.result (drop c.loop-at.at ((c.args.piece.now)))) in most-here)) in (
-      omega (arith, (let most-here : c.nonzero_run-k.result ≤ c.min-n.result = omega (arith, (let found-here : c.nonzero_run-k.result ≡ length (nonzero c.min-n.result (drop c.loop-at.at ((c.args.piece.now)))) = cc (rest-mid ((c.args.piece.now)) c.loop-at.at) in found-here), nonzero-most c.min-n.result (drop c.loop-at.at ((c.args.piece.now)))) in most-here)),
-      l.inv.1 ∙ reached-block (length p) l.at n p (omega arith) (sym (e ∙ (let found-here : c.nonzero_run-k.result ≡ length (nonzero c.min-n.result (drop c.loop-at.at ((c.args.piece.now)))) = cc (rest-mid ((c.args.piece.now)) c.loop-at.at) in found-here)))
-          ∙ ap (λ (m : ℕ). run_length (length p) (l.at + m) p) e,
+    let k = c.nonzero_run-k.result in
+    let e : k ≡ length (nonzero n (drop l.at p)) = cc (rest-mid p l.at) in
+    let most = nonzero-most n (drop l.at p) in
+    let f : n ≡ k = omega arith in (
+      omega arith,
+      l.invariant.1 ∙ reached-block (length p) l.at n p (omega arith) (sym (f ∙ e)) ∙ ap (λ (m : ℕ). run_length (length p) (l.at + m) p) f,
     )
 
 pub returns : goal.returns
 returns c =
     let l = c.loop-at in
-    let p = (c.args.piece.now) in
+    let p = c.args.piece.now in
     omega (arith, l.invariant.1, reached-end (length p) l.at p (omega arith))

@@ -1,6 +1,5 @@
 -- `line::reader::decode_frame` meets its contract.
 -- Assumes nothing.
-use borrow.Author.Rules.{rules}
 use Rattle.octets.specs.Bytes.{run}
 use Rattle.line.specs.Decoding.{plain}
 use Rattle.line.specs.ReaderLayout.{frame_offset}

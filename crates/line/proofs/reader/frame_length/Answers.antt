@@ -1,6 +1,5 @@
 -- `line::reader::frame_length` meets its contract.
 -- Assumes nothing.
-use borrow.Author.Rules.{rules}
 use Rattle.line.specs.ReaderLayout.{frame_offset}
 use Rattle.line.proofs.Rest.{rest-mid}
 use Rattle.line.proofs.reader.frame_length.Goals as goal

@@ -2,7 +2,6 @@
 -- Assumes nothing.
 use native.Mathlib.Nat.{add-sub_cancel_left}
 use native.Mathlib.Omega.{arith}
-use borrow.Author.Rules.{rules}
 use Rattle.line.specs.Reader.{read_report}
 use Rattle.line.proofs.Judging.{length_part, report-checksum, report-magic, report-good}
 use Rattle.line.proofs.reader.inspect.Goals as goal

@@ -1,6 +1,5 @@
 -- `line::reader::is_valid` meets its contract.
 -- Assumes nothing.
-use borrow.Author.Rules.{rules}
 use borrow.Author.Tests.{le-leb, lt-leb}
 use Rattle.line.specs.Reader.{valid_reader}
 use Rattle.line.proofs.reader.is_valid.Goals as goal

@@ -1,14 +1,13 @@
 -- `alike` meets its contract. The loop's invariant: where no other byte is found, the first k bytes are alike.
 -- Assumes nothing.
-use Prim.Native.Nat.{◌+◌, ◌-◌, ◌≤◌}
+use Prim.Native.Nat.{◌+◌}
 use mathlib.Core.Path.{◌≡◌, refl}
-use mathlib.Core.Bool.{false, not}
+use mathlib.Core.Bool.{not}
 use borrow.Author.Rules.{rules}
 use borrow.Author.Tests.{eqb-true, not-true, not-false}
 use native.Mathlib.Omega.{arith}
 use lib.Dec.{eqb}
-use lib.ListN.{get_or, replicate}
-use Rattle.octets.specs.Bytes.{run}
+use lib.ListN.{get_or}
 use Rattle.line.proofs.Runs.{or-false}
 use Rattle.line.proofs.Alike.{failed, run-alike}
 use Rattle.line.proofs.scan.alike.Goals as goal

@@ -1,16 +1,10 @@
 -- `alike` meets its contract. The loop's invariant: where no other byte is found, the first k bytes are alike.
 -- Assumes nothing.
-use Prim.Native.Nat.{◌+◌, ◌-◌, ◌≤◌}
-use mathlib.Core.Path.{◌≡◌, refl}
-use mathlib.Core.Bool.{false, not}
-use borrow.Author.Rules.{rules}
-use borrow.Author.Tests.{eqb-true, not-true, not-false}
-use native.Mathlib.Omega.{arith}
-use lib.Dec.{eqb}
-use lib.ListN.{get_or, replicate}
+use Prim.Native.Nat.{◌-◌, ◌≤◌}
+use mathlib.Core.Path.{◌≡◌}
+use mathlib.Core.Bool.{false}
+use lib.ListN.{replicate}
 use Rattle.octets.specs.Bytes.{run}
-use Rattle.line.proofs.Runs.{or-false}
-use Rattle.line.proofs.Alike.{failed, run-alike}
 use Rattle.line.proofs.scan.alike.Given as goal
 
 abbrev pub invariant-loop-k : goal.invariant-loop-k

@@ -1,11 +1,8 @@
 -- `copy` meets its contract. The loop's invariant: the first k bytes are copied.
 -- Assumes nothing.
-use Prim.Native.Nat.{◌-◌, ◌≤◌}
 use mathlib.Core.Path.{◌≡◌, refl, sym}
 use borrow.Author.Rules.{rules}
 use native.Mathlib.Omega.{arith}
-use lib.ListN.{length}
-use Rattle.octets.specs.Bytes.{run, overlay}
 use Rattle.octets.proofs.Overlay.{overlay-none, overlay-run-more}
 use Rattle.line.proofs.scan.copy.Goals as goal
 

@@ -1,15 +1,10 @@
 -- `copy_run` meets its contract. The loop's invariant: k bytes of the run are passed and put.
 -- Assumes nothing.
 use Prim.Native.Nat.{◌-◌, ◌≤◌}
-use mathlib.Core.Path.{◌≡◌, refl, sym, ◌∙◌}
-use borrow.Author.Rules.{rules}
-use native.Mathlib.Omega.{arith}
-use lib.ListN.{length, drop, length-drop}
-use lib.Seq.{get_or-drop}
+use mathlib.Core.Path.{◌≡◌}
+use lib.ListN.{length, drop}
 use Rattle.octets.specs.Bytes.{run, overlay}
-use Rattle.octets.proofs.Overlay.{overlay-none, overlay-run-more}
 use Rattle.line.specs.Runs.{nonzero, run_length}
-use Rattle.line.proofs.Runs.{reached-none, reached-more, reached-zero, reached-end}
 use Rattle.line.proofs.scan.copy_run.Given as goal
 
 abbrev pub invariant-loop-k : goal.invariant-loop-k

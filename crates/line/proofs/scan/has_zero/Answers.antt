@@ -1,15 +1,13 @@
 -- `has_zero` meets its contract. The loop's invariant: where no zero is found, the first k bytes are a run.
 -- Assumes nothing.
-use Prim.Native.Nat.{◌+◌, ◌-◌, ◌≤◌}
+use Prim.Native.Nat.{◌+◌}
 use mathlib.Core.Path.{◌≡◌}
-use mathlib.Core.Bool.{false}
 use borrow.Author.Rules.{rules}
 use borrow.Author.Tests.{eqb-false}
 use native.Mathlib.Omega.{arith}
 use lib.Dec.{eqb}
-use lib.ListN.{length, drop, get_or, length-drop}
+use lib.ListN.{drop, get_or, length-drop}
 use lib.Seq.{get_or-drop}
-use Rattle.line.specs.Runs.{nonzero}
 use Rattle.line.proofs.Runs.{or-false, nonzero-one, nonzero-most}
 use Rattle.line.proofs.scan.has_zero.Goals as goal
 

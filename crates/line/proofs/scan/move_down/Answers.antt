@@ -1,11 +1,8 @@
 -- `move_down` meets its contract. The loop's invariant: the first k bytes are moved.
 -- Assumes nothing.
-use Prim.Native.Nat.{◌-◌, ◌≤◌}
 use mathlib.Core.Path.{◌≡◌, refl, sym}
 use borrow.Author.Rules.{rules}
 use native.Mathlib.Omega.{arith}
-use lib.ListN.{length}
-use Rattle.octets.specs.Bytes.{run, overlay}
 use Rattle.octets.proofs.Overlay.{overlay-none, overlay-down-more}
 use Rattle.line.proofs.scan.move_down.Goals as goal
 

@@ -1,12 +1,10 @@
 -- `nonzero_run` meets its contract. The loop's invariant: k bytes of the run are passed.
 -- Assumes nothing.
-use Prim.Native.Nat.{◌-◌, ◌≤◌}
-use mathlib.Core.Path.{◌≡◌, sym, ◌∙◌}
+use mathlib.Core.Path.{sym, ◌∙◌}
 use borrow.Author.Rules.{rules}
 use native.Mathlib.Omega.{arith}
-use lib.ListN.{length, drop, length-drop}
+use lib.ListN.{drop, length-drop}
 use lib.Seq.{get_or-drop}
-use Rattle.line.specs.Runs.{nonzero, run_length}
 use Rattle.line.proofs.Runs.{reached-none, reached-more, reached-zero, reached-end}
 use Rattle.line.proofs.scan.nonzero_run.Goals as goal
 
@@ -23,7 +21,7 @@ returns-then-s-from-eq0 c =
     let a = c.args in
     let n = length-drop a.from a.s.now in
     let b = get_or-drop a.from a.s.now l.k 0 in
-    sym (l.inv.1 ∙ reached-zero a.most l.k (drop a.from a.s.now) (omega arith) (omega arith))
+    sym (l.invariant.1 ∙ reached-zero a.most l.k (drop a.from a.s.now) (omega arith) (omega arith))
 
 pub loop-k-preserved : goal.loop-k-preserved
 loop-k-preserved c =
@@ -31,7 +29,7 @@ loop-k-preserved c =
     let a = c.args in
     let n = length-drop a.from a.s.now in
     let b = get_or-drop a.from a.s.now l.k 0 in
-    (search rules, l.inv.1 ∙ reached-more a.most l.k (drop a.from a.s.now) (omega arith) (omega arith) (omega arith))
+    (search rules, l.invariant.1 ∙ reached-more a.most l.k (drop a.from a.s.now) (omega arith) (omega arith) (omega arith))
 
 pub returns : goal.returns
 returns c =

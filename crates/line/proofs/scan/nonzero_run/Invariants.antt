@@ -1,13 +1,9 @@
 -- `nonzero_run` meets its contract. The loop's invariant: k bytes of the run are passed.
 -- Assumes nothing.
 use Prim.Native.Nat.{◌-◌, ◌≤◌}
-use mathlib.Core.Path.{◌≡◌, sym, ◌∙◌}
-use borrow.Author.Rules.{rules}
-use native.Mathlib.Omega.{arith}
-use lib.ListN.{length, drop, length-drop}
-use lib.Seq.{get_or-drop}
+use mathlib.Core.Path.{◌≡◌}
+use lib.ListN.{length, drop}
 use Rattle.line.specs.Runs.{nonzero, run_length}
-use Rattle.line.proofs.Runs.{reached-none, reached-more, reached-zero, reached-end}
 use Rattle.line.proofs.scan.nonzero_run.Given as goal
 
 abbrev pub invariant-loop-k : goal.invariant-loop-k

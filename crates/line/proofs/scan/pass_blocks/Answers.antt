@@ -1,12 +1,10 @@
 -- `pass_blocks` meets its contract. The loop's invariant: k bytes of the run are passed.
 -- Assumes nothing.
-use Prim.Native.Nat.{◌-◌, ◌≤◌}
-use mathlib.Core.Path.{◌≡◌, refl, ◌∙◌}
+use mathlib.Core.Path.{refl, ◌∙◌}
 use borrow.Author.Rules.{rules}
 use native.Mathlib.Omega.{arith}
 use lib.ListN.{drop}
 use lib.Seq.{drop-drop}
-use Rattle.line.specs.Runs.{run_length}
 use Rattle.line.proofs.Runs.{reached-block}
 use Rattle.line.proofs.scan.pass_blocks.Goals as goal
 
@@ -27,7 +25,7 @@ loop-k-preserved c =
     let l = c.loop-k in
     let a = c.args in
     let b = rw (← drop-drop l.k a.from a.s.now) at (c.has_zero.ensures c.if-has_zero.false) in
-    (omega arith, l.inv.1 ∙ reached-block a.end l.k a.width (drop a.from a.s.now) (omega arith) b)
+    (omega arith, l.invariant.1 ∙ reached-block a.end l.k a.width (drop a.from a.s.now) (omega arith) b)
 
 pub returns : goal.returns
 returns c =

@@ -1,13 +1,9 @@
 -- `pass_blocks` meets its contract. The loop's invariant: k bytes of the run are passed.
 -- Assumes nothing.
 use Prim.Native.Nat.{◌-◌, ◌≤◌}
-use mathlib.Core.Path.{◌≡◌, refl, ◌∙◌}
-use borrow.Author.Rules.{rules}
-use native.Mathlib.Omega.{arith}
+use mathlib.Core.Path.{◌≡◌}
 use lib.ListN.{drop}
-use lib.Seq.{drop-drop}
 use Rattle.line.specs.Runs.{run_length}
-use Rattle.line.proofs.Runs.{reached-block}
 use Rattle.line.proofs.scan.pass_blocks.Given as goal
 
 abbrev pub invariant-loop-k : goal.invariant-loop-k

@@ -1,11 +1,8 @@
 -- `put_alike` meets its contract. The loop's invariant: the first k bytes are put.
 -- Assumes nothing.
-use Prim.Native.Nat.{◌-◌, ◌≤◌}
 use mathlib.Core.Path.{◌≡◌, sym}
 use borrow.Author.Rules.{rules}
 use native.Mathlib.Omega.{arith}
-use lib.ListN.{length, replicate}
-use Rattle.octets.specs.Bytes.{overlay}
 use Rattle.octets.proofs.Overlay.{overlay-none}
 use Rattle.line.proofs.Alike.{put-alike}
 use Rattle.line.proofs.scan.put_alike.Goals as goal

@@ -1,13 +1,9 @@
 -- `put_alike` meets its contract. The loop's invariant: the first k bytes are put.
 -- Assumes nothing.
 use Prim.Native.Nat.{◌-◌, ◌≤◌}
-use mathlib.Core.Path.{◌≡◌, sym}
-use borrow.Author.Rules.{rules}
-use native.Mathlib.Omega.{arith}
+use mathlib.Core.Path.{◌≡◌}
 use lib.ListN.{length, replicate}
 use Rattle.octets.specs.Bytes.{overlay}
-use Rattle.octets.proofs.Overlay.{overlay-none}
-use Rattle.line.proofs.Alike.{put-alike}
 use Rattle.line.proofs.scan.put_alike.Given as goal
 
 abbrev pub invariant-loop-k : goal.invariant-loop-k

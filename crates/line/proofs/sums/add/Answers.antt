@@ -1,13 +1,10 @@
 -- `line::sums::add` meets its contract. The loop keeps what is added so far, and that the sums from the offset on are as they were.
 -- Assumes nothing.
-use mathlib.Core.Path.{◌≡◌, refl, ◌∙◌}
-use mathlib.Core.List.{◌++◌}
-use Prim.Native.Nat.{ℕ, ◌-◌, ◌≤◌}
+use mathlib.Core.Path.{refl, ◌∙◌}
 use native.Mathlib.Omega.{arith}
 use borrow.Author.Rules.{rules}
-use lib.ListN.{length, take, drop, get_or, length-set}
+use lib.ListN.{length-set}
 use lib.Seq.{get_or-set_other}
-use Rattle.line.specs.Columns.{columns, added_row}
 use Rattle.line.proofs.Columns.{added_next, added-end}
 use Rattle.line.proofs.sums.add.Goals as goal
 
@@ -18,12 +15,17 @@ loop-i-init c =
 pub returns : goal.returns
 returns c =
     let l = c.loop-i in added-end c.args.row.now l.sums l.i (omega arith) (omega arith) l.invariant.3
-    -- TODO overflow_add-sums: no step requires at In-loop: let l = (at-loop c).loop in
-    omega (arith, l.inv.2 l.i (omega arith), (start_of c).requires.2 l.i)
-    -- TODO loop-i-preserved: no step args at In-loop: let l = (at-loop c).loop in
-    let a = (start_of c).args in (
+
+pub overflow_add-sums : goal.overflow_add-sums
+overflow_add-sums c =
+    let l = c.loop-i in omega (arith, l.invariant.2 l.i (omega arith), c.requires.2 l.i)
+
+pub loop-i-preserved : goal.loop-i-preserved
+loop-i-preserved c =
+    let l = c.loop-i in
+    let a = c.args in (
       search rules,
-      simp length-set l.inv.1,
-      λ k h. get_or-set_other l.sums l.i k _ 0 (λ e. omega arith) ∙ l.inv.2 k (omega arith),
-      added_next a.row.now l.sums l.i _ (omega arith) (omega arith) refl l.inv.3,
+      simp length-set l.invariant.1,
+      λ k h. get_or-set_other l.sums l.i k _ 0 (λ e. omega arith) ∙ l.invariant.2 k (omega arith),
+      added_next a.row.now l.sums l.i _ (omega arith) (omega arith) refl l.invariant.3,
     )

@@ -1,14 +1,10 @@
 -- `line::sums::add` meets its contract. The loop keeps what is added so far, and that the sums from the offset on are as they were.
 -- Assumes nothing.
-use mathlib.Core.Path.{◌≡◌, refl, ◌∙◌}
+use mathlib.Core.Path.{◌≡◌}
 use mathlib.Core.List.{◌++◌}
 use Prim.Native.Nat.{ℕ, ◌-◌, ◌≤◌}
-use native.Mathlib.Omega.{arith}
-use borrow.Author.Rules.{rules}
-use lib.ListN.{length, take, drop, get_or, length-set}
-use lib.Seq.{get_or-set_other}
+use lib.ListN.{length, take, drop, get_or}
 use Rattle.line.specs.Columns.{columns, added_row}
-use Rattle.line.proofs.Columns.{added_next, added-end}
 use Rattle.line.proofs.sums.add.Given as goal
 
 abbrev pub invariant-loop-i : goal.invariant-loop-i

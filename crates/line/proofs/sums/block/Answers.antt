@@ -1,12 +1,10 @@
 -- `line::sums::block` meets its contract. The loop keeps that the columns' sums are those of the rows so far.
 -- Assumes nothing.
 use mathlib.Core.Path.{◌≡◌}
-use Prim.Native.Nat.{◌-◌, ◌*◌, ◌≤◌}
 use native.Mathlib.Omega.{arith}
 use borrow.Author.Rules.{rules}
-use Rattle.octets.specs.Bytes.{run}
-use Rattle.line.specs.Columns.{columns, column_rows}
-use Rattle.line.proofs.Columns.{Summed, summed-none, summed-next, summed-block, first-addable, second-addable}
+use Rattle.line.specs.Columns.{column_rows}
+use Rattle.line.proofs.Columns.{summed-none, summed-next, summed-block, first-addable, second-addable}
 use Rattle.line.proofs.sums.block.Goals as goal
 
 pub loop-i-init : goal.loop-i-init
@@ -23,7 +21,7 @@ pub add-requires-in-loop-i : goal.add-requires-in-loop-i
 add-requires-in-loop-i c =
     let l = c.loop-i in
     let bytes = c.row-bytes in
-    second-addable l.i _ bytes.result l.firsts l.seconds (omega arith) bytes.ensures.1 bytes.ensures.2 l.inv.1 _
+    second-addable l.i _ bytes.result l.firsts l.seconds (omega arith) bytes.ensures.1 bytes.ensures.2 l.invariant.1 _
     c.add.ensures
 
 pub loop-i-preserved : goal.loop-i-preserved
@@ -32,7 +30,7 @@ loop-i-preserved c =
     let bytes = c.row-bytes in (
       search rules,
       summed-next l.i _ _ _ _ _ _ _ (omega arith) bytes.ensures.0 bytes.ensures.1 bytes.ensures.2 c.add.ensures
-          c.add-in-loop-i.ensures l.inv.1,
+          c.add-in-loop-i.ensures l.invariant.1,
     )
 
 pub row_sums-one-requires : goal.row_sums-one-requires
@@ -52,6 +50,6 @@ returns c =
     let e : l.i ≡ column_rows = omega arith in (
       omega arith,
       omega arith,
-      summed-block a.body.now l.firsts l.seconds a.at a.sums.first a.sums.second _ _ _ c.requires.0 (omega arith)
-          (omega arith) (rw e at l.invariant.1) one.0.0 one.0.1 two.0.0,
+      summed-block a.body.now l.firsts l.seconds a.at a.sums.first a.sums.second _ _ _ c.requires.block_length_in_bounds (omega arith)
+          (omega arith) (rw e at l.invariant.1) one.first_value.0 one.first_value.1 two.first_value.0,
     )

@@ -1,12 +1,9 @@
 -- `line::sums::block` meets its contract. The loop keeps that the columns' sums are those of the rows so far.
 -- Assumes nothing.
-use mathlib.Core.Path.{◌≡◌}
 use Prim.Native.Nat.{◌-◌, ◌*◌, ◌≤◌}
-use native.Mathlib.Omega.{arith}
-use borrow.Author.Rules.{rules}
 use Rattle.octets.specs.Bytes.{run}
 use Rattle.line.specs.Columns.{columns, column_rows}
-use Rattle.line.proofs.Columns.{Summed, summed-none, summed-next, summed-block, first-addable, second-addable}
+use Rattle.line.proofs.Columns.{Summed}
 use Rattle.line.proofs.sums.block.Given as goal
 
 abbrev pub invariant-loop-i : goal.invariant-loop-i

@@ -1,11 +1,9 @@
 -- `line::sums::checksum` meets its contract. The loop keeps what the sums come to over the bytes that are left.
 -- Assumes nothing.
-use mathlib.Core.Path.{◌≡◌, refl, ◌∙◌}
-use Prim.Native.Nat.{◌-◌, ◌≤◌, ◌<◌}
+use mathlib.Core.Path.{refl, ◌∙◌}
 use native.Mathlib.Omega.{arith}
 use borrow.Author.Rules.{rules}
-use lib.ListN.{length, drop}
-use Rattle.line.specs.Checksum.{sums as sums_of, checksum}
+use Rattle.line.specs.Checksum.{checksum}
 use Rattle.line.proofs.sums.checksum.Goals as goal
 
 pub loop-at-init : goal.loop-at-init

@@ -1,9 +1,7 @@
 -- `line::sums::checksum` meets its contract. The loop keeps what the sums come to over the bytes that are left.
 -- Assumes nothing.
-use mathlib.Core.Path.{◌≡◌, refl, ◌∙◌}
+use mathlib.Core.Path.{◌≡◌}
 use Prim.Native.Nat.{◌-◌, ◌≤◌, ◌<◌}
-use native.Mathlib.Omega.{arith}
-use borrow.Author.Rules.{rules}
 use lib.ListN.{length, drop}
 use Rattle.line.specs.Checksum.{sums as sums_of, checksum}
 use Rattle.line.proofs.sums.checksum.Given as goal

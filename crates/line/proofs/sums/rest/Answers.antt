@@ -1,11 +1,7 @@
 -- `line::sums::rest` meets its contract. The loop keeps what the remainders of the sums come to over the bytes that are left.
 -- Assumes nothing.
-use mathlib.Core.Path.{◌≡◌}
-use Prim.Native.Nat.{◌+◌, ◌-◌, ◌*◌, ◌%◌, ◌≤◌}
 use native.Mathlib.Omega.{arith}
 use borrow.Author.Rules.{rules}
-use lib.ListN.{length, drop}
-use Rattle.line.specs.Checksum.{sums}
 use Rattle.line.proofs.Checksum.{sums-end}
 use Rattle.line.proofs.Columns.{sums_next, sums-start}
 use Rattle.line.proofs.sums.rest.Goals as goal

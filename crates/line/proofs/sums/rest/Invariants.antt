@@ -2,12 +2,8 @@
 -- Assumes nothing.
 use mathlib.Core.Path.{◌≡◌}
 use Prim.Native.Nat.{◌+◌, ◌-◌, ◌*◌, ◌%◌, ◌≤◌}
-use native.Mathlib.Omega.{arith}
-use borrow.Author.Rules.{rules}
 use lib.ListN.{length, drop}
 use Rattle.line.specs.Checksum.{sums}
-use Rattle.line.proofs.Checksum.{sums-end}
-use Rattle.line.proofs.Columns.{sums_next, sums-start}
 use Rattle.line.proofs.sums.rest.Given as goal
 
 abbrev pub invariant-loop-i : goal.invariant-loop-i

@@ -1,13 +1,11 @@
 -- `line::sums::row` meets its contract. The loop keeps that the bytes so far stand in the row, and none above 255 does.
 -- Assumes nothing.
 use mathlib.Core.Path.{◌≡◌, refl, sym, ◌∙◌}
-use Prim.Native.Nat.{◌-◌, ◌≤◌}
 use native.Mathlib.Omega.{arith}
 use borrow.Author.Rules.{rules}
-use lib.ListN.{length, take, length-set}
+use lib.ListN.{length-set}
 use lib.Seq.{take_all}
-use Rattle.octets.specs.Bytes.{run}
-use Rattle.line.specs.Columns.{columns, AtMost}
+use Rattle.line.specs.Columns.{columns}
 use Rattle.line.proofs.Columns.{row_next, at-most-zeros, at-most-set}
 use Rattle.line.proofs.sums.row.Goals as goal
 

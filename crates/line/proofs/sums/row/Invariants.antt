@@ -1,14 +1,10 @@
 -- `line::sums::row` meets its contract. The loop keeps that the bytes so far stand in the row, and none above 255 does.
 -- Assumes nothing.
-use mathlib.Core.Path.{◌≡◌, refl, sym, ◌∙◌}
+use mathlib.Core.Path.{◌≡◌}
 use Prim.Native.Nat.{◌-◌, ◌≤◌}
-use native.Mathlib.Omega.{arith}
-use borrow.Author.Rules.{rules}
-use lib.ListN.{length, take, length-set}
-use lib.Seq.{take_all}
+use lib.ListN.{length, take}
 use Rattle.octets.specs.Bytes.{run}
 use Rattle.line.specs.Columns.{columns, AtMost}
-use Rattle.line.proofs.Columns.{row_next, at-most-zeros, at-most-set}
 use Rattle.line.proofs.sums.row.Given as goal
 
 abbrev pub invariant-loop-i : goal.invariant-loop-i

@@ -1,12 +1,11 @@
 -- `line::sums::row_sums` meets its contract. The loop keeps the two sums of what is read so far.
 -- Assumes nothing.
 use mathlib.Core.Path.{◌≡◌, refl}
-use Prim.Native.Nat.{◌-◌, ◌*◌, ◌≤◌}
 use native.Mathlib.Omega.{arith}
 use borrow.Author.Rules.{rules}
 use lib.ListN.{take}
 use lib.Seq.{take_all}
-use Rattle.line.specs.Columns.{columns, total, weighted as weighted_of}
+use Rattle.line.specs.Columns.{total, weighted as weighted_of}
 use Rattle.line.proofs.Columns.{total-next, weighted-next}
 use Rattle.line.proofs.sums.row_sums.Goals as goal
 
@@ -21,9 +20,11 @@ returns c =
     let row = c.args.row.now in
     let e : take l.i row ≡ row = take_all l.i row (omega arith) in
     record { first_value = (rw e at l.invariant.3, rw e at l.invariant.4); first_bound = (omega arith, omega arith) }
-    -- TODO loop-i-preserved: no step args at At-loop: let start = c.before.before.before.before in
-    let i = c.before.before.before.loop.i in
-    let row = start.args.row.now in (
+
+pub loop-i-preserved : goal.loop-i-preserved
+loop-i-preserved c =
+    let i = c.loop-i.i in
+    let row = c.args.row.now in (
       search rules,
       omega arith,
       omega arith,

@@ -1,13 +1,9 @@
 -- `line::sums::row_sums` meets its contract. The loop keeps the two sums of what is read so far.
 -- Assumes nothing.
-use mathlib.Core.Path.{◌≡◌, refl}
+use mathlib.Core.Path.{◌≡◌}
 use Prim.Native.Nat.{◌-◌, ◌*◌, ◌≤◌}
-use native.Mathlib.Omega.{arith}
-use borrow.Author.Rules.{rules}
 use lib.ListN.{take}
-use lib.Seq.{take_all}
 use Rattle.line.specs.Columns.{columns, total, weighted as weighted_of}
-use Rattle.line.proofs.Columns.{total-next, weighted-next}
 use Rattle.line.proofs.sums.row_sums.Given as goal
 
 abbrev pub invariant-loop-i : goal.invariant-loop-i

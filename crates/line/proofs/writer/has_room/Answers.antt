@@ -1,7 +1,6 @@
 -- `line::writer::has_room` meets its contract. No form is longer than the longest.
 -- Assumes nothing.
 use mathlib.Core.Path.{sym}
-use borrow.Author.Rules.{rules}
 use borrow.Author.Tests.{lt-ltb}
 use native.Mathlib.Omega.{arith}
 use lib.ListN.{length, take, length-take}

@@ -3,7 +3,7 @@
 use mathlib.Core.Path.{refl, sym, ◌∙◌}
 use Prim.Native.Nat.{◌≤◌, ◌<◌}
 use borrow.Author.Rules.{rules}
-use borrow.Author.Tests.{ltb-true, ltb-false, not-true, not-false}
+use borrow.Author.Tests.{ltb-true, ltb-false}
 use native.Mathlib.Omega.{arith}
 use lib.ListN.{length, take}
 use Rattle.line.specs.Cobs.{cobs}
@@ -12,22 +12,30 @@ use Rattle.line.proofs.writer.send.Goals as goal
 
 pub returns-then-not-has_room : goal.returns-then-not-has_room
 returns-then-not-has_room c =
-    let a = c.args in send-refused (cobs (take a.n a.m.now)) _ refl ((let short-here : let a = c.args in length a.out.now ≤ length (cobs (take a.n a.m.now)) = ltb-false _ _ (sym c.has_room.ensures ∙ not-true _ c.if-not-has_room.true) in short-here))
+    let a = c.args in
+    let short : length a.out.now ≤ length (cobs (take a.n a.m.now)) = ltb-false _ _ (sym c.has_room.ensures ∙ c.if-not-has_room.true) in
+    send-refused (cobs (take a.n a.m.now)) _ refl short
 
 pub encode-k-requires : goal.encode-k-requires
 encode-k-requires c =
-    let r = (let long_enough-here : let a = c.args in length (cobs (take a.n a.m.now)) < length a.out.now = ltb-true _ _ (sym c.has_room.ensures ∙ not-false _ c.if-not-has_room.false) in long_enough-here) in search rules
+    let a = c.args in
+    let r : length (cobs (take a.n a.m.now)) < length a.out.now = ltb-true _ _ (sym c.has_room.ensures ∙ c.if-not-has_room.false) in
+    search rules
 
 pub bounds-out-k : goal.bounds-out-k
 bounds-out-k c =
-    omega (arith, (let long_enough-here : let a = c.args in length (cobs (take a.n a.m.now)) < length a.out.now = ltb-true _ _ (sym c.has_room.ensures ∙ not-false _ c.if-not-has_room.false) in long_enough-here), c.encode-k.ensures.1)
+    let a = c.args in
+    let r : length (cobs (take a.n a.m.now)) < length a.out.now = ltb-true _ _ (sym c.has_room.ensures ∙ c.if-not-has_room.false) in
+    omega (arith, c.encode-k.ensures.value)
 
 pub overflow_add-result : goal.overflow_add-result
 overflow_add-result c =
-    omega (arith, (let long_enough-here : let a = c.args in length (cobs (take a.n a.m.now)) < length a.out.now = ltb-true _ _ (sym c.has_room.ensures ∙ not-false _ c.if-not-has_room.false) in long_enough-here), c.encode-k.ensures.1)
+    let a = c.args in
+    let r : length (cobs (take a.n a.m.now)) < length a.out.now = ltb-true _ _ (sym c.has_room.ensures ∙ c.if-not-has_room.false) in
+    omega (arith, c.encode-k.ensures.value)
 
 pub returns : goal.returns
 returns c =
-    let r = (let long_enough-here : let a = c.args in length (cobs (take a.n a.m.now)) < length a.out.now = ltb-true _ _ (sym c.has_room.ensures ∙ not-false _ c.if-not-has_room.false) in long_enough-here) in
-    let e = c.encode-k.ensures in
-    send-done _ _ e.1 (omega arith) e.0
+    let a = c.args in
+    let r : length (cobs (take a.n a.m.now)) < length a.out.now = ltb-true _ _ (sym c.has_room.ensures ∙ c.if-not-has_room.false) in
+    let e = c.encode-k.ensures in send-done _ _ e.value (omega arith) e.out_after

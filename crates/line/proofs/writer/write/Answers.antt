@@ -1,6 +1,5 @@
 -- `line::writer::write` meets its contract.
 -- Assumes nothing.
-use borrow.Author.Rules.{rules}
 use native.Mathlib.Omega.{arith}
 use lib.ListN.{length-append}
 use Rattle.line.proofs.Sending.{write-refused}

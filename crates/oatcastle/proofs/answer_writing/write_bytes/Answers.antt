@@ -1,6 +1,5 @@
 -- `oatcastle::answer_writing::write_bytes` meets its contract.
 -- Assumes nothing.
-use borrow.Author.Rules.{rules}
 use Rattle.oatcastle.proofs.AnswerLaws.{filling-short, filling-copied}
 use Rattle.oatcastle.proofs.answer_writing.write_bytes.Goals as goal
 

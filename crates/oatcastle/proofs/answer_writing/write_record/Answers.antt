@@ -1,6 +1,5 @@
 -- `oatcastle::answer_writing::write_record` meets its contract.
 -- Assumes nothing.
-use borrow.Author.Rules.{rules}
 use Rattle.oatcastle.proofs.AnswerLaws.{both-short, both-copied}
 use Rattle.oatcastle.proofs.answer_writing.write_record.Goals as goal
 

@@ -1,7 +1,6 @@
 -- `oatcastle::counting::receive_numbered` meets its contract.
 -- Assumes nothing.
 use mathlib.Core.Path.{ap}
-use borrow.Author.Rules.{rules}
 use Rattle.oatcastle.specs.ReceiveCalls.{receive_done, receive_call}
 use Rattle.oatcastle.proofs.counting.receive_numbered.Goals as goal
 

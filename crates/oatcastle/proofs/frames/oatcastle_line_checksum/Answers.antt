@@ -1,6 +1,5 @@
 -- `oatcastle::frames::oatcastle_line_checksum` meets its contract.
 -- Assumes nothing.
-use borrow.Author.Rules.{rules}
 use Rattle.oatcastle.specs.Answers.{answering}
 use Rattle.oatcastle.specs.LineCalls.{line_checksum_call}
 use Rattle.oatcastle.proofs.frames.oatcastle_line_checksum.Goals as goal

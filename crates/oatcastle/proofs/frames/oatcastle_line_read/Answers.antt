@@ -1,6 +1,5 @@
 -- `oatcastle::frames::oatcastle_line_read` meets its contract.
 -- Assumes nothing.
-use borrow.Author.Rules.{rules}
 use Rattle.oatcastle.specs.LineCalls.{line_read_call}
 use Rattle.oatcastle.proofs.AnswerLaws.{answered-with}
 use Rattle.oatcastle.proofs.frames.oatcastle_line_read.Goals as goal

@@ -1,6 +1,5 @@
 -- `oatcastle::frames::oatcastle_line_start` meets its contract.
 -- Assumes nothing.
-use borrow.Author.Rules.{rules}
 use Rattle.line.specs.Reader.{reader_start_report}
 use Rattle.oatcastle.specs.LineCalls.{line_start_call}
 use Rattle.oatcastle.proofs.frames.oatcastle_line_start.Goals as goal
@@ -8,9 +7,9 @@ use Rattle.oatcastle.proofs.frames.oatcastle_line_start.Goals as goal
 pub returns-in-Done : goal.returns-in-Done
 unfolding line_start_call reader_start_report
 returns-in-Done c =
-    rw (← c.start-started.ensures, c.enum_told-1.given.1)
+    rw (← c.in-Done.ensures)
 
 pub returns-in-Refused : goal.returns-in-Refused
 unfolding line_start_call reader_start_report
 returns-in-Refused c =
-    rw (← c.start-started.ensures, c.enum_told-in-Refused-1.given.1)
+    rw (← c.in-Refused.ensures)

@@ -1,12 +1,12 @@
 -- `oatcastle::plans::joined` meets its contract. The loop's invariant: the first i rows are put.
 -- Assumes nothing.
-use Prim.Native.Nat.{◌-◌, ◌≤◌}
+use Prim.Native.Nat.{◌-◌}
 use mathlib.Core.Path.{◌≡◌, refl, ap, ◌∙◌}
 use borrow.Author.Rules.{rules}
 use native.Mathlib.Omega.{arith}
 use lib.ListN.{length}
 use Rattle.octets.proofs.Overlay.{length-put}
-use Rattle.oatcastle.proofs.AddressLaws.{Joined, joined-none, joined-more, joined-all}
+use Rattle.oatcastle.proofs.AddressLaws.{joined-none, joined-more, joined-all}
 use Rattle.oatcastle.proofs.plans.joined.Goals as goal
 
 pub loop-i-init : goal.loop-i-init

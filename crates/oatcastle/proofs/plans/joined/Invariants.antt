@@ -1,12 +1,9 @@
 -- `oatcastle::plans::joined` meets its contract. The loop's invariant: the first i rows are put.
 -- Assumes nothing.
 use Prim.Native.Nat.{◌-◌, ◌≤◌}
-use mathlib.Core.Path.{◌≡◌, refl, ap, ◌∙◌}
-use borrow.Author.Rules.{rules}
-use native.Mathlib.Omega.{arith}
+use mathlib.Core.Path.{◌≡◌}
 use lib.ListN.{length}
-use Rattle.octets.proofs.Overlay.{length-put}
-use Rattle.oatcastle.proofs.AddressLaws.{Joined, joined-none, joined-more, joined-all}
+use Rattle.oatcastle.proofs.AddressLaws.{Joined}
 use Rattle.oatcastle.proofs.plans.joined.Given as goal
 
 abbrev pub invariant-loop-i : goal.invariant-loop-i

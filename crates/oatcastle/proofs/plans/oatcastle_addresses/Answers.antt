@@ -1,6 +1,5 @@
 -- `oatcastle::plans::oatcastle_addresses` meets its contract.
 -- Assumes nothing.
-use borrow.Author.Rules.{rules}
 use Rattle.oatcastle.specs.AddressCalls.{addresses_call}
 use Rattle.oatcastle.proofs.plans.oatcastle_addresses.Goals as goal
 

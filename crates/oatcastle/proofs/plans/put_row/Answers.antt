@@ -8,5 +8,5 @@ use Rattle.oatcastle.proofs.plans.put_row.Goals as goal
 
 pub returns : goal.returns
 returns c =
-    let l : length c.args.t1 ≡ 6 = search rules in
+    let l : length c.args.row ≡ 6 = search rules in
     (l, c.copy.ensures ∙ copied-row _ _ _ l)

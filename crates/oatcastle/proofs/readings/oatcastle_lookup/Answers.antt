@@ -1,10 +1,9 @@
 -- `oatcastle::readings::oatcastle_lookup` meets its contract.
 -- Assumes nothing.
-use borrow.Author.Rules.{rules}
 use Rattle.oatcastle.specs.SupervisorCalls.{lookup_call}
 use Rattle.oatcastle.proofs.readings.oatcastle_lookup.Goals as goal
 
 pub returns : goal.returns
 unfolding lookup_call
 returns c =
-    rw (← c.lookup_result-found.ensures, ← c.lookup-value.ensures.0) c.answer_value.ensures
+    rw (← c.lookup_result-found.ensures, ← c.lookup-value.ensures.result_value) c.answer_value.ensures

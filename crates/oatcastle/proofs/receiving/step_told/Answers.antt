@@ -1,7 +1,6 @@
 -- `oatcastle::receiving::step_told` meets its contract.
 -- Assumes nothing.
 use mathlib.Core.Path.{ap}
-use borrow.Author.Rules.{rules}
 use Rattle.responder.specs.Receive.{StepOutcome}
 use Rattle.oatcastle.specs.ReceiveCalls.{step_call}
 use Rattle.oatcastle.proofs.AnswerLaws.{answered-with}

@@ -1,6 +1,5 @@
 -- `oatcastle::requesting::oatcastle_requester_receive` meets its contract.
 -- Assumes nothing.
-use borrow.Author.Rules.{rules}
 use Rattle.oatcastle.specs.RequesterCalls.{listen_call}
 use Rattle.oatcastle.proofs.AnswerLaws.{answered-with}
 use Rattle.oatcastle.proofs.RequesterLaws.{end-told}

@@ -1,6 +1,5 @@
 -- `oatcastle::requesting::oatcastle_requester_start` meets its contract.
 -- Assumes nothing.
-use borrow.Author.Rules.{rules}
 use Rattle.requester.specs.Calls.{main_start_report}
 use Rattle.oatcastle.specs.RequesterCalls.{requester_start_call}
 use Rattle.oatcastle.proofs.requesting.oatcastle_requester_start.Goals as goal
@@ -8,9 +7,9 @@ use Rattle.oatcastle.proofs.requesting.oatcastle_requester_start.Goals as goal
 pub returns-in-Done : goal.returns-in-Done
 unfolding requester_start_call main_start_report
 returns-in-Done c =
-    rw (← c.start-started.ensures, c.enum_told-1.given.1)
+    rw (← c.in-Done.ensures)
 
 pub returns-in-Refused : goal.returns-in-Refused
 unfolding requester_start_call main_start_report
 returns-in-Refused c =
-    rw (← c.start-started.ensures, c.enum_told-in-Refused-1.given.1)
+    rw (← c.in-Refused.ensures)

@@ -1,6 +1,5 @@
 -- `oatcastle::rot_link::oatcastle_rot_crc` meets its contract.
 -- Assumes nothing.
-use borrow.Author.Rules.{rules}
 use Rattle.oatcastle.specs.Answers.{answering}
 use Rattle.oatcastle.specs.RotCalls.{rot_crc_call}
 use Rattle.oatcastle.proofs.rot_link.oatcastle_rot_crc.Goals as goal

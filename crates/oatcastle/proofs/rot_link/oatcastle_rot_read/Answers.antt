@@ -1,6 +1,5 @@
 -- `oatcastle::rot_link::oatcastle_rot_read` meets its contract.
 -- Assumes nothing.
-use borrow.Author.Rules.{rules}
 use Rattle.rot.specs.Reading.{rot_read_report}
 use Rattle.oatcastle.specs.Answers.{answering_with}
 use Rattle.oatcastle.specs.RotCalls.{rot_read_given, rot_read_call}
@@ -9,19 +8,19 @@ use Rattle.oatcastle.proofs.rot_link.oatcastle_rot_read.Goals as goal
 pub returns-in-Refused : goal.returns-in-Refused
 unfolding rot_read_call rot_read_given rot_read_report answering_with
 returns-in-Refused c =
-    rw (← c.read-read.ensures, c.read-1.given.1, c.number.ensures)
+    rw (← c.in-Refused.ensures, c.number.ensures)
 
 pub returns-in-Nothing : goal.returns-in-Nothing
 unfolding rot_read_call rot_read_given rot_read_report answering_with
 returns-in-Nothing c =
-    rw (← c.read-read.ensures, c.enum_told-1.given.1)
+    rw (← c.in-Nothing.ensures)
 
 pub returns-in-Message : goal.returns-in-Message
 unfolding rot_read_call rot_read_given rot_read_report answering_with
 returns-in-Message c =
-    rw (← c.read-read.ensures, c.read-in-Message-1.given.1)
+    rw (← c.in-Message.ensures)
 
 pub returns-in-Echoed : goal.returns-in-Echoed
 unfolding rot_read_call rot_read_given rot_read_report answering_with
 returns-in-Echoed c =
-    rw (← c.read-read.ensures, c.read-in-Echoed-1.given.1)
+    rw (← c.in-Echoed.ensures)

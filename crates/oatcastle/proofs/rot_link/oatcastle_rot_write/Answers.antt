@@ -1,6 +1,5 @@
 -- `oatcastle::rot_link::oatcastle_rot_write` meets its contract.
 -- Assumes nothing.
-use borrow.Author.Rules.{rules}
 use Rattle.rot.specs.Writing.{rot_write_report}
 use Rattle.oatcastle.specs.Answers.{answering_with}
 use Rattle.oatcastle.specs.RotCalls.{rot_write_given, rot_write_call}
@@ -9,9 +8,9 @@ use Rattle.oatcastle.proofs.rot_link.oatcastle_rot_write.Goals as goal
 pub returns-in-Done : goal.returns-in-Done
 unfolding rot_write_call rot_write_given rot_write_report answering_with
 returns-in-Done c =
-    rw (← c.write-written.ensures, c.written-1.given.1)
+    rw (← c.in-Done.ensures)
 
 pub returns-in-Refused : goal.returns-in-Refused
 unfolding rot_write_call rot_write_given rot_write_report answering_with
 returns-in-Refused c =
-    rw (← c.write-written.ensures, c.written-in-Refused-1.given.1, c.number.ensures)
+    rw (← c.in-Refused.ensures, c.number.ensures)

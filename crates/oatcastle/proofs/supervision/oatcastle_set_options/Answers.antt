@@ -1,6 +1,5 @@
 -- `oatcastle::supervision::oatcastle_set_options` meets its contract.
 -- Assumes nothing.
-use borrow.Author.Rules.{rules}
 use Rattle.supervisor.specs.Calls.{options_report}
 use Rattle.oatcastle.specs.SupervisorCalls.{options_call}
 use Rattle.oatcastle.proofs.supervision.oatcastle_set_options.Goals as goal
@@ -8,14 +7,14 @@ use Rattle.oatcastle.proofs.supervision.oatcastle_set_options.Goals as goal
 pub returns-in-Done : goal.returns-in-Done
 unfolding options_call options_report
 returns-in-Done c =
-    rw (← c.set_options-set.ensures, c.enum_told-1.given.1)
+    rw (← c.in-Done.ensures)
 
 pub returns-in-Refused : goal.returns-in-Refused
 unfolding options_call options_report
 returns-in-Refused c =
-    rw (← c.set_options-set.ensures, c.enum_told-in-Refused-1.given.1)
+    rw (← c.in-Refused.ensures)
 
 pub returns-in-BadOption : goal.returns-in-BadOption
 unfolding options_call options_report
 returns-in-BadOption c =
-    rw (← c.set_options-set.ensures, c.enum_told-in-BadOption-1.given.1)
+    rw (← c.in-BadOption.ensures)

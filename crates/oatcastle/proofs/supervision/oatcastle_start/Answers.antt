@@ -1,6 +1,5 @@
 -- `oatcastle::supervision::oatcastle_start` meets its contract.
 -- Assumes nothing.
-use borrow.Author.Rules.{rules}
 use Rattle.oatcastle.specs.SupervisorCalls.{start_call}
 use Rattle.oatcastle.proofs.supervision.oatcastle_start.Goals as goal
 

@@ -1,6 +1,5 @@
 -- `oatcastle::supervision::oatcastle_take` meets its contract.
 -- Assumes nothing.
-use borrow.Author.Rules.{rules}
 use Rattle.supervisor.specs.Calls.{take_report}
 use Rattle.oatcastle.specs.Answers.{answering_with}
 use Rattle.oatcastle.specs.SupervisorCalls.{take_given, take_call}
@@ -9,9 +8,9 @@ use Rattle.oatcastle.proofs.supervision.oatcastle_take.Goals as goal
 pub returns-in-Moved : goal.returns-in-Moved
 unfolding take_call take_given take_report answering_with
 returns-in-Moved c =
-    rw (← c.take-taken.ensures, c.taken-1.given.1)
+    rw (← c.in-Moved.ensures)
 
 pub returns-in-Refused : goal.returns-in-Refused
 unfolding take_call take_given take_report answering_with
 returns-in-Refused c =
-    rw (← c.take-taken.ensures, c.enum_told-1.given.1)
+    rw (← c.in-Refused.ensures)

@@ -1,6 +1,5 @@
 -- `requester::hearing::hear` meets its contract.
 -- Assumes nothing.
-use borrow.Author.Rules.{rules}
 use mathlib.Core.Path.{sym, ap, ◌∙◌}
 use Rattle.requester.specs.Hearing.{head_message, heard_report}
 use Rattle.requester.specs.declared.number.ReplyNumber.{ReplyNumber}

@@ -1,6 +1,5 @@
 -- `requester::hearing::settle_ground` meets its contract.
 -- Assumes nothing.
-use borrow.Author.Rules.{rules}
 use mathlib.Core.Path.{sym, ◌∙◌}
 use Rattle.requester.specs.Calls.{handed_report, handed_report_of, heard_outcome_of}
 use Rattle.requester.specs.Hearing.{next_of}

@@ -1,6 +1,5 @@
 -- `requester::hearing::settle_message` meets its contract.
 -- Assumes nothing.
-use borrow.Author.Rules.{rules}
 use native.Mathlib.Omega.{arith}
 use Rattle.line.specs.Reader.{data_promise}
 use Rattle.requester.specs.Calls.{handed_report, handed_report_of, heard_outcome_of}
@@ -17,28 +16,28 @@ returns-then-not-is_outstanding c =
 
 pub hear-heard-requires : goal.hear-heard-requires
 hear-heard-requires c =
-    omega (arith, requester-valid _ c.pre.1.0, c.read_u64-newest.ensures)
+    omega (arith, requester-valid _ c.requires.requester_value, c.read_u64-newest.ensures)
 
 pub settle_answer-requires : goal.settle_answer-requires
 settle_answer-requires c =
-    record { reader_value = c.pre.0; length_le_longest_data = c.pre.1.1 }
+    record { reader_value = c.requires.reader_value; length_le_longest_data = c.requires.length_le_longest_data }
 
 pub returns-in-Ground : goal.returns-in-Ground
 unfolding heard_outcome_of handed_report handed_report_of next_of heard_report
 returns-in-Ground c =
-    let h = rw c.enum_told-1.given.1 at (c.hear-heard.ensures (data_promise c.args.reader.now c.args.head.length)) in
+    let h = rw c.in-Ground.is at (c.hear-heard.ensures (data_promise c.args.reader.now c.args.head.length)) in
     rw (settles-out _ _ (passed _ _ c.is_outstanding.ensures c.if-not-is_outstanding.false), ← c.read_u64-newest.ensures, ← h)
 
 pub returns-in-Other : goal.returns-in-Other
 unfolding heard_outcome_of handed_report handed_report_of next_of heard_report
 returns-in-Other c =
-    let h = rw c.enum_told-in-Other-1.given.1 at (c.hear-heard.ensures (data_promise c.args.reader.now c.args.head.length)) in
+    let h = rw c.in-Other.is at (c.hear-heard.ensures (data_promise c.args.reader.now c.args.head.length)) in
     rw (settles-out _ _ (passed _ _ c.is_outstanding.ensures c.if-not-is_outstanding.false), ← c.read_u64-newest.ensures, ← h)
 
 pub returns-in-Answer : goal.returns-in-Answer
 unfolding heard_outcome_of heard_report
 returns-in-Answer c =
     let h =
-    rw c.enum_told-in-Answer-1.given.1 at (c.hear-heard.ensures (data_promise c.args.reader.now c.args.head.length)) in
+    rw c.in-Answer.is at (c.hear-heard.ensures (data_promise c.args.reader.now c.args.head.length)) in
     rw (settles-out _ _ (passed _ _ c.is_outstanding.ensures c.if-not-is_outstanding.false), ← c.read_u64-newest.ensures, ← h)
     c.settle_answer.ensures

@@ -1,6 +1,5 @@
 -- `requester::progress::is_kept` meets its contract.
 -- Assumes nothing.
-use borrow.Author.Rules.{rules}
 use Rattle.requester.proofs.progress.is_kept.Goals as goal
 
 pub returns : goal.returns

@@ -1,6 +1,5 @@
 -- `requester::progress::is_outstanding` meets its contract.
 -- Assumes nothing.
-use borrow.Author.Rules.{rules}
 use borrow.Author.Tests.{eq-eqb, ne_eqb}
 use Rattle.requester.specs.Layout.{is_outstanding}
 use Rattle.requester.proofs.progress.is_outstanding.Goals as goal

@@ -1,6 +1,5 @@
 -- `requester::progress::is_unsent` meets its contract.
 -- Assumes nothing.
-use borrow.Author.Rules.{rules}
 use Rattle.requester.specs.Layout.{is_unsent}
 use Rattle.requester.proofs.Cases.{refused, passed}
 use Rattle.requester.proofs.progress.is_unsent.Goals as goal

@@ -1,6 +1,5 @@
 -- `requester::receive::listen` meets its contract.
 -- Assumes nothing.
-use borrow.Author.Rules.{rules}
 use native.Mathlib.Omega.{arith}
 use lib.ListN.{length-take}
 use Rattle.requester.proofs.ValidLaws.{requester-valid, parts-valid}
@@ -8,21 +7,20 @@ use Rattle.requester.proofs.ReaderLaws.{read_by, read-valid}
 use Rattle.requester.proofs.ReceiveLaws.{heard-received}
 use Rattle.requester.proofs.receive.listen.Goals as goal
 
--- TODO slice_bounds-read-end: before the start: let at-min = min-of c in
-    let start = start-from-min at-min in
-    omega (arith, at-min.min.ensures, length-take at-min.min.result start.args.piece.now)
--- TODO settle-outcome-requires: before the start: let read = read_of c in
-    let start = start-from-read read in
-    let v = parts-valid _ start.pre.0 in
-    let w = read-valid _ _ v.reader (read_by _ _ v.reader read.read.ensures) in
-    (w.0, (v.requester, w.1))
--- TODO go_on-ended-requires: before the start: let at_read = c.before.before.before.before.before.before in
-    let start = start-from-read at_read in
-    (requester-valid _ (parts-valid _ start.pre.0).requester).long
--- TODO returns: before the start: let go_on = c.before.before.before.before in
-    let settle = go_on.before.before in
-    let read = read_of settle.before in
-    let at-min = min-of read.before in
-    let start = start-from-min at-min in
-    heard-received _ _ start.pre.0 start.pre.1.0 at-min.min.ensures read.read.ensures
-    settle.settle.ensures go_on.go_on.ensures c.is-unsent.ensures
+pub slice_bounds-read-end : goal.slice_bounds-read-end
+slice_bounds-read-end c =
+    omega (arith, c.min-end.ensures, length-take c.min-end.result c.args.piece.now)
+
+pub settle-outcome-requires : goal.settle-outcome-requires
+settle-outcome-requires c =
+    let v = parts-valid _ c.requires.requester_value in
+    let w = read-valid _ _ v.reader (read_by _ _ v.reader c.read-read.ensures) in
+    record { reader_value = w.0; requester_value = v.requester; answer_value = w.1 }
+
+pub go_on-ended-requires : goal.go_on-ended-requires
+go_on-ended-requires c = (requester-valid _ (parts-valid _ c.requires.requester_value).requester).long
+
+pub returns : goal.returns
+returns c =
+    heard-received _ _ c.requires.requester_value c.requires.reader_value c.min-end.ensures c.read-read.ensures
+    c.settle-outcome.ensures c.go_on-ended.ensures c.is_unsent-unsent.ensures

@@ -1,6 +1,5 @@
 -- `requester::receive::skip` meets its contract.
 -- Assumes nothing.
-use borrow.Author.Rules.{rules}
 use Rattle.requester.specs.Calls.{end_report, handed_report}
 use Rattle.requester.proofs.ReceiveLaws.{rest-received}
 use Rattle.requester.proofs.receive.skip.Goals as goal
@@ -8,4 +7,4 @@ use Rattle.requester.proofs.receive.skip.Goals as goal
 pub returns : goal.returns
 unfolding handed_report end_report
 returns c =
-    rest-received _ _ c.requires.0 c.requires.1 c.read-read.ensures c.is_unsent-unsent.ensures
+    rest-received _ _ c.requires.requester_value c.requires.reader_value c.read-read.ensures c.is_unsent-unsent.ensures

@@ -1,6 +1,5 @@
 -- `requester::sending::request` meets its contract.
 -- Assumes nothing.
-use borrow.Author.Rules.{rules}
 use mathlib.Core.Path.{sym, ap, ◌∙◌}
 use Rattle.line.specs.Writer.{write_report}
 use Rattle.requester.specs.Calls.{request_report}
@@ -19,58 +18,48 @@ pub returns-then-data-gt-LONGEST_DATA : goal.returns-then-data-gt-LONGEST_DATA
 unfolding request_report
 returns-then-data-gt-LONGEST_DATA c =
     request-long _ _ _ _ (passed _ _ c.requester_is_valid.ensures c.if-not-requester_is_valid.false) c.if-data-gt-LONGEST_DATA.true
-    -- TODO returns-then-is_outstanding: no step requester-is-valid at After-slice_known2: let is-outstanding = c.before in
-    let if2 = else2 is-outstanding in
-    let if1 = if2.before in
-    let requester-is-valid = if1.before in
-    request-out _ _ _ _ (passed _ _ requester-is-valid.requester-is-valid.ensures if1.if1.left) if2.if2.left
-    (sym is-outstanding.is-outstanding.ensures ∙ c.if3.true)
-    -- TODO returns-then-number-ge-LAST_NUMBER: no step requester-is-valid at After-shared_slice_known: let read_u64 = c.before in
-    let if3 = else3 read_u64 in
-    let is-outstanding = if3.before in
-    let if2 = else2 is-outstanding in
-    let if1 = if2.before in
-    let requester-is-valid = if1.before in
-    request-spent _ _ _ _ (passed _ _ requester-is-valid.requester-is-valid.ensures if1.if1.left) if2.if2.left
-    (sym is-outstanding.is-outstanding.ensures ∙ if3.if3.left) read_u64.read_u64.ensures c.if4.true
-    -- TODO keep-requires: no step requester-is-valid at After-shared_slice_known: let if2 = c.before.before.before.before.before.before.before.before.before.before.before.before.before.before.before in
-    let if1 = if2.before in
-    let requester-is-valid = if1.before in
-    ((requester-valid _ (passed _ _ requester-is-valid.requester-is-valid.ensures if1.if1.false)).long, if2.if2.false)
-    -- TODO returns-in-Done: no step requester-is-valid at After-shared_slice_known: let keep = c.before.before in
-    let written = keep.before.before.before in
-    let write = written.before.before.before.before in
-    let if4 = else4 write in
-    let read_u64 = if4.before in
-    let if3 = else3 read_u64 in
-    let is-outstanding = if3.before in
-    let if2 = else2 is-outstanding in
-    let if1 = if2.before in
-    let requester-is-valid = if1.before in
-    request-done _ _ _ _ (passed _ _ requester-is-valid.requester-is-valid.ensures if1.if1.left) if2.if2.left
-    (sym is-outstanding.is-outstanding.ensures ∙ if3.if3.left) read_u64.read_u64.ensures if4.if4.left
-    write.write.ensures _ (ap write_report written.written.given.1) keep.keep.ensures
-    -- TODO returns-in-NoRoom: no step requester-is-valid at After-shared_slice_known: let write = c.before.before.before.before in
-    let if4 = else4 write in
-    let read_u64 = if4.before in
-    let if3 = else3 read_u64 in
-    let is-outstanding = if3.before in
-    let if2 = else2 is-outstanding in
-    let if1 = if2.before in
-    let requester-is-valid = if1.before in
-    request-short _ _ _ _ (passed _ _ requester-is-valid.requester-is-valid.ensures if1.if1.left) if2.if2.left
-    (sym is-outstanding.is-outstanding.ensures ∙ if3.if3.left) read_u64.read_u64.ensures if4.if4.left
-    write.write.ensures (ap write_report c.enum_told.given.1)
-    -- TODO returns-in-TooLong: before the start: let write = c.before.before.before.before in
-    let if4 = else4 write in
-    let read_u64 = if4.before in
-    let if3 = else3 read_u64 in
-    let is-outstanding = if3.before in
-    let if2 = else2 is-outstanding in
-    let if1 = if2.before in
-    let requester-is-valid = if1.before in
-    let start = requester-is-valid.before.before.before.before.before in
-    absurd (request-never start.args.requester.now start.args.command start.args.«data».now start.args.out.now
-    (passed _ _ requester-is-valid.requester-is-valid.ensures if1.if1.left) if2.if2.left
-    (sym is-outstanding.is-outstanding.ensures ∙ if3.if3.left) read_u64.read_u64.ensures if4.if4.left
-    write.write.ensures (ap write_report c.enum-told2.given.1))
+
+pub returns-then-is_outstanding : goal.returns-then-is_outstanding
+unfolding request_report
+returns-then-is_outstanding c =
+    request-out _ _ _ _ (passed _ _ c.requester_is_valid.ensures c.if-not-requester_is_valid.false)
+    c.if-data-gt-LONGEST_DATA.false
+    (sym c.is_outstanding.ensures ∙ c.if-is_outstanding.true)
+
+pub returns-then-number-ge-LAST_NUMBER : goal.returns-then-number-ge-LAST_NUMBER
+unfolding request_report
+returns-then-number-ge-LAST_NUMBER c =
+    request-spent _ _ _ _ (passed _ _ c.requester_is_valid.ensures c.if-not-requester_is_valid.false)
+    c.if-data-gt-LONGEST_DATA.false
+    (sym c.is_outstanding.ensures ∙ c.if-is_outstanding.false) c.read_u64-number.ensures c.if-number-ge-LAST_NUMBER.true
+
+pub keep-requires : goal.keep-requires
+keep-requires c =
+    record {
+      requester_length_in_bounds = (requester-valid _ (passed _ _ c.requester_is_valid.ensures c.if-not-requester_is_valid.false)).long;
+      data_len_bound = c.if-data-gt-LONGEST_DATA.false;
+    }
+
+pub returns-in-Done : goal.returns-in-Done
+unfolding request_report write_report
+returns-in-Done c =
+    request-done _ _ _ _ (passed _ _ c.requester_is_valid.ensures c.if-not-requester_is_valid.false)
+    c.if-data-gt-LONGEST_DATA.false
+    (sym c.is_outstanding.ensures ∙ c.if-is_outstanding.false) c.read_u64-number.ensures c.if-number-ge-LAST_NUMBER.false
+    c.write-written.ensures _ (ap write_report c.in-Done.is) c.keep.ensures
+
+pub returns-in-NoRoom : goal.returns-in-NoRoom
+unfolding request_report write_report
+returns-in-NoRoom c =
+    request-short _ _ _ _ (passed _ _ c.requester_is_valid.ensures c.if-not-requester_is_valid.false)
+    c.if-data-gt-LONGEST_DATA.false
+    (sym c.is_outstanding.ensures ∙ c.if-is_outstanding.false) c.read_u64-number.ensures c.if-number-ge-LAST_NUMBER.false
+    c.write-written.ensures (ap write_report c.in-NoRoom.is)
+
+pub returns-in-TooLong : goal.returns-in-TooLong
+unfolding write_report
+returns-in-TooLong c =
+    absurd (request-never c.args.requester.now c.args.command c.args.«data».now c.args.out.now (passed _ _ c.requester_is_valid.ensures c.if-not-requester_is_valid.false)
+    c.if-data-gt-LONGEST_DATA.false
+    (sym c.is_outstanding.ensures ∙ c.if-is_outstanding.false) c.read_u64-number.ensures c.if-number-ge-LAST_NUMBER.false
+    c.write-written.ensures (ap write_report c.in-TooLong.is))

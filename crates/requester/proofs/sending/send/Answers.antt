@@ -1,6 +1,5 @@
 -- `requester::sending::send` meets its contract.
 -- Assumes nothing.
-use borrow.Author.Rules.{rules}
 use mathlib.Core.Path.{ap}
 use native.Mathlib.Omega.{arith}
 use Rattle.line.specs.Writer.{write_report}
@@ -14,39 +13,34 @@ pub returns-then-not-requester_is_valid : goal.returns-then-not-requester_is_val
 unfolding send_report
 returns-then-not-requester_is_valid c =
     send-refused _ _ (refused _ _ c.requester_is_valid.ensures c.if-not-requester_is_valid.true)
-    -- TODO returns-then-not-is_unsent: no step requester-is-valid at After-slice_known2: let is-unsent = c.before in
-    let if1 = else1 is-unsent in
-    let requester-is-valid = if1.before in
-    send-nothing _ _ (passed _ _ requester-is-valid.requester-is-valid.ensures if1.if1.left)
-    (refused _ _ is-unsent.is-unsent.ensures c.if2.true)
-    -- TODO write_outstanding-written-requires: no step requester-is-valid at After-slice_known: let if1 = c.before.before.before.before.before in
-    let requester-is-valid = if1.before in
-    passed _ _ requester-is-valid.requester-is-valid.ensures if1.if1.false
-    -- TODO bounds-requester-9: no step requester-is-valid at After-slice_known: let if1 = c.before.before.before.before.before.before.before.before.before.before.before in
-    let requester-is-valid = if1.before in
-    omega (arith, (requester-valid _ (passed _ _ requester-is-valid.requester-is-valid.ensures if1.if1.false)).long)
-    -- TODO returns-in-Done: no step requester-is-valid at After-slice_known: let written = c.before in
-    let write-outstanding = written.before.before.before.before in
-    let if2 = else2 write-outstanding in
-    let is-unsent = if2.before in
-    let if1 = else1 is-unsent in
-    let requester-is-valid = if1.before in
-    send-done _ _ (passed _ _ requester-is-valid.requester-is-valid.ensures if1.if1.left)
-    (passed _ _ is-unsent.is-unsent.ensures if2.if2.left) write-outstanding.write-outstanding.ensures _
-    (ap write_report written.written.given.1)
-    -- TODO returns-in-NoRoom: no step requester-is-valid at After-slice_known: let write-outstanding = c.before.before.before.before in
-    let if2 = else2 write-outstanding in
-    let is-unsent = if2.before in
-    let if1 = else1 is-unsent in
-    let requester-is-valid = if1.before in
-    send-short _ _ (passed _ _ requester-is-valid.requester-is-valid.ensures if1.if1.left)
-    (passed _ _ is-unsent.is-unsent.ensures if2.if2.left) write-outstanding.write-outstanding.ensures
-    (ap write_report c.enum_told.given.1)
-    -- TODO returns-in-TooLong: no step requester-is-valid at After-slice_known: let write-outstanding = c.before.before.before.before in
-    let if2 = else2 write-outstanding in
-    let is-unsent = if2.before in
-    let if1 = else1 is-unsent in
-    let requester-is-valid = if1.before in
-    absurd (send-never _ _ (passed _ _ requester-is-valid.requester-is-valid.ensures if1.if1.left)
-    (passed _ _ is-unsent.is-unsent.ensures if2.if2.left) write-outstanding.write-outstanding.ensures
-    (ap write_report c.enum-told2.given.1))
+
+pub returns-then-not-is_unsent : goal.returns-then-not-is_unsent
+unfolding send_report
+returns-then-not-is_unsent c =
+    send-nothing _ _ (passed _ _ c.requester_is_valid.ensures c.if-not-requester_is_valid.false)
+    (refused _ _ c.is_unsent.ensures c.if-not-is_unsent.true)
+
+pub write_outstanding-written-requires : goal.write_outstanding-written-requires
+write_outstanding-written-requires c = passed _ _ c.requester_is_valid.ensures c.if-not-requester_is_valid.false
+
+pub bounds-requester-9 : goal.bounds-requester-9
+bounds-requester-9 c =
+    omega (arith, (requester-valid _ (passed _ _ c.requester_is_valid.ensures c.if-not-requester_is_valid.false)).long)
+
+pub returns-in-Done : goal.returns-in-Done
+unfolding send_report write_report
+returns-in-Done c =
+    send-done _ _ (passed _ _ c.requester_is_valid.ensures c.if-not-requester_is_valid.false)
+    (passed _ _ c.is_unsent.ensures c.if-not-is_unsent.false) c.write_outstanding-written.ensures _ (ap write_report c.in-Done.is)
+
+pub returns-in-NoRoom : goal.returns-in-NoRoom
+unfolding send_report write_report
+returns-in-NoRoom c =
+    send-short _ _ (passed _ _ c.requester_is_valid.ensures c.if-not-requester_is_valid.false)
+    (passed _ _ c.is_unsent.ensures c.if-not-is_unsent.false) c.write_outstanding-written.ensures (ap write_report c.in-NoRoom.is)
+
+pub returns-in-TooLong : goal.returns-in-TooLong
+unfolding write_report
+returns-in-TooLong c =
+    absurd (send-never _ _ (passed _ _ c.requester_is_valid.ensures c.if-not-requester_is_valid.false)
+    (passed _ _ c.is_unsent.ensures c.if-not-is_unsent.false) c.write_outstanding-written.ensures (ap write_report c.in-TooLong.is))

@@ -1,6 +1,5 @@
 -- `requester::state::read_standing` meets its contract.
 -- Assumes nothing.
-use borrow.Author.Rules.{rules}
 use borrow.Author.Tests.{ne_eqb}
 use Rattle.requester.specs.Layout.{step_at, kept_request, out_request}
 use Rattle.requester.specs.Calls.{standing_report, part_standing}

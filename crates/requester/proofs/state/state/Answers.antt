@@ -1,6 +1,5 @@
 -- `requester::state::state` meets its contract.
 -- Assumes nothing.
-use borrow.Author.Rules.{rules}
 use mathlib.Core.Path.{ap}
 use Rattle.requester.specs.Calls.{state_report, stands, stage_report, standing_report, state_promise}
 use Rattle.requester.proofs.Cases.{refused, passed}
@@ -15,7 +14,7 @@ pub returns-then-is_outstanding : goal.returns-then-is_outstanding
 unfolding state_report state_promise
 returns-then-is_outstanding c =
     rw (
-      passed _ _ c.requester_is_valid.ensures c.if-not-requester_is_valid.left,
+      passed _ _ c.requester_is_valid.ensures c.if-not-requester_is_valid.false,
       ← c.is_outstanding.ensures,
       c.if-is_outstanding.true,
     )
@@ -25,7 +24,7 @@ pub returns : goal.returns
 unfolding state_report standing_report stage_report state_promise
 returns c =
     rw (
-      passed _ _ c.requester_is_valid.ensures c.if-not-requester_is_valid.left,
+      passed _ _ c.requester_is_valid.ensures c.if-not-requester_is_valid.false,
       ← c.is_outstanding.ensures,
       c.if-is_outstanding.false,
     )

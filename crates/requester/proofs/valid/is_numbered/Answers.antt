@@ -1,6 +1,5 @@
 -- `requester::valid::is_numbered` meets its contract.
 -- Assumes nothing.
-use borrow.Author.Rules.{rules}
 use Rattle.requester.specs.Valid.{is_numbered}
 use Rattle.requester.proofs.Cases.{refused, passed}
 use Rattle.requester.proofs.valid.is_numbered.Goals as goal

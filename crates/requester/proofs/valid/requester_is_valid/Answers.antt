@@ -32,14 +32,15 @@ returns-then-byte_at-gt1-2 c =
 pub returns-then-word_at-gt-LONGEST_DATA : goal.returns-then-word_at-gt-LONGEST_DATA
 returns-then-word_at-gt-LONGEST_DATA c =
     untrue _ (λ e. omega (arith, requester-valid _ e))
-    -- TODO returns-then-not-stays_out: no step Stays-out at After-stays_out: let Stays-out = c.before in
-    let stays = Stays-out.Stays-out.ensures ∙ ap stays_out Stays-out.before.read-u8.ensures in
-    untrue _ (λ e. false≢true (sym (refused _ _ stays c.if7.true) ∙ (requester-valid _ e).command))
-    -- TODO returns: no step Stays-out at After-stays_out: let if7 = c.before in
-    let Stays-out = if7.before in
-    let stays = Stays-out.Stays-out.ensures ∙ ap stays_out Stays-out.before.read-u8.ensures in
-    let if6 = Stays-out.before.before in
-    let if4 = if6.before.before.before.before in
+
+pub returns-then-not-stays_out : goal.returns-then-not-stays_out
+returns-then-not-stays_out c =
+    let stays = c.stays_out.ensures ∙ ap stays_out c.read_u8.ensures in
+    untrue _ (λ e. false≢true (sym (refused _ _ stays c.if-not-stays_out.true) ∙ (requester-valid _ e).command))
+
+pub returns : goal.returns
+returns c =
+    let stays = c.stays_out.ensures ∙ ap stays_out c.read_u8.ensures in
     numbered-valid _
     (λ n. record {
       long = search rules;
@@ -48,7 +49,7 @@ returns-then-word_at-gt-LONGEST_DATA c =
       unsent = search rules;
       kept = search rules;
       size = search rules;
-      command = passed _ _ stays if7.if7.false;
+      command = passed _ _ stays c.if-not-stays_out.false;
       numbered = n;
     })
-    c.is-numbered.ensures
+    c.is_numbered.ensures

@@ -1,6 +1,5 @@
 -- `responder::answers::item_data_length` meets its contract.
 -- Assumes nothing.
-use borrow.Author.Rules.{rules}
 use borrow.Author.Tests.{eq-eqb, ne_eqb}
 use Rattle.responder.specs.Receive.{item_data_length}
 use Rattle.responder.proofs.answers.item_data_length.Goals as goal
@@ -12,5 +11,4 @@ returns-then-byte_at-eq-INVENTORY_ITEM c =
 
 pub returns : goal.returns
 unfolding item_data_length
-returns c =
-    rw (← c.byte_at.ensures.0, ne_eqb _ _ c.if-byte_at-eq-INVENTORY_ITEM.false)
+returns c = rw (← c.byte_at.ensures.0, ne_eqb _ _ c.if-byte_at-eq-INVENTORY_ITEM.false)

@@ -2,28 +2,25 @@
 -- Assumes nothing.
 use native.Mathlib.Omega.{arith}
 use lib.ListN.{drop, length-take}
-use borrow.Author.Rules.{rules}
 use Rattle.responder.proofs.ReceiveLaws.{block_same, block-other}
 use Rattle.responder.proofs.answers.send_block.Goals as goal
 
 pub returns-then-not-same : goal.returns-then-not-same
-returns-then-not-same c =
-    rw (← block-other _ _ _ c.requires.1 _ c.same.ensures c.if-not-same.true)
-    c.send_part.ensures
+returns-then-not-same c = rw (← block-other _ _ _ c.requires.factory_value _ c.same.ensures c.if-not-same.true) c.send_part.ensures
 
 pub send-requires : goal.send-requires
 send-requires c =
     let l = length-take 4096 (drop c.read_u64-offset.result c.args.image.now) in
-    record { outbox_length_in_bounds = search rules; rest_len_bound = rw c.part.ensures.0 (omega arith) }
+    record {
+      outbox_length_in_bounds = c.requires.outbox_length_in_bounds;
+      rest_len_bound = rw c.part.ensures.result_value (omega arith);
+    }
 
 pub returns : goal.returns
 returns c =
-    let tested = ⟦Else1⟧ in
     rw (
-      ← block_same _ _ _ (start_of tested.before).requires.1 _ tested.before.same.ensures tested.if1.left,
+      ← block_same _ _ _ c.requires.factory_value _ c.same.ensures c.if-not-same.false,
       ← c.read_u64-offset.ensures,
-      ← c.part.ensures.0,
+      ← c.part.ensures.result_value,
     )
     c.send.ensures
-
--- TODO a place is left in returns

@@ -1,46 +1,49 @@
 -- `responder::receive::receive` meets its contract: an iteration for each frame, and the rest of the piece after it.
 -- Assumes nothing.
-use mathlib.Core.Path.{◌≡◌}
-use Prim.Native.Nat.{◌-◌}
+use mathlib.Core.Path.{◌≡◌, sym, ◌∙◌}
 use native.Mathlib.Omega.{arith}
-use lib.ListN.{length}
-use borrow.Author.Rules.{rules}
 use Rattle.line.proofs.Rest.{rest-mid}
 use Rattle.supervisor.specs.Calls.{parts}
-use Rattle.supervisor.proofs.Cases.{refused}
-use Rattle.supervisor.proofs.ValidLaws.{passed}
 use Rattle.responder.specs.Receive.{valid_parts, receive_report, receive_promise}
-use Rattle.responder.proofs.StepLaws.{Held, begun, over, kept, valid-step-used, went}
+use Rattle.responder.proofs.StepLaws.{begun, over, kept, valid-step-used, went}
 use Rattle.responder.proofs.receive.receive.Goals as goal
 
+pub returns-then-not-are_valid : goal.returns-then-not-are_valid
+unfolding receive_report receive_promise
+returns-then-not-are_valid c =
+    let a = c.args in
+    let tested : c.are_valid.result ≡ valid_parts (parts a.reader.now a.outbox.now a.factory.now a.settings.now a.registers.now) =
+    rw (rest-mid a.factory.now 0) at c.are_valid.ensures in
+    rw (sym tested ∙ c.if-not-are_valid.true)
+
+pub returns-then-is_kept : goal.returns-then-is_kept
+returns-then-is_kept c =
+    let a = c.args in
+    let tested : c.are_valid.result ≡ valid_parts (parts a.reader.now a.outbox.now a.factory.now a.settings.now a.registers.now) =
+    rw (rest-mid a.factory.now 0) at c.are_valid.ensures in
+    let one = c.is_kept.ensures c.if-is_kept.true in
+    kept _ _ _ c.collect.result _ (sym tested ∙ c.if-not-are_valid.false) one.0 one.1 c.collect.ensures
+
+pub loop-at-init : goal.loop-at-init
+loop-at-init c =
+    let a = c.args in
+    let tested : c.are_valid.result ≡ valid_parts (parts a.reader.now a.outbox.now a.factory.now a.settings.now a.registers.now) =
+    rw (rest-mid a.factory.now 0) at c.are_valid.ensures in
+    begun _ _ _ (sym tested ∙ c.if-not-are_valid.false)
+
 pub valid_step-done-requires : goal.valid_step-done-requires
-valid_step-done-requires c =
-    c.loop-at.invariant.valid
+valid_step-done-requires c = c.loop-at.invariant.valid
+
+pub overflow_add-at : goal.overflow_add-at
+overflow_add-at c = let u = valid-step-used c.loop-at.invariant c.loop-at-test.true c.valid_step-done.ensures.registers_after in omega arith
 
 pub loop-at-smaller : goal.loop-at-smaller
-loop-at-smaller c =
-    let u = valid-step-used c.loop-at.invariant c.loop-at-test.taken c.valid_step-done.ensures.0 in
-    omega arith
+loop-at-smaller c = let u = valid-step-used c.loop-at.invariant c.loop-at-test.true c.valid_step-done.ensures.registers_after in omega arith
 
 pub loop-at-preserved : goal.loop-at-preserved
 loop-at-preserved c =
-    went c.loop-at.invariant c.loop-at-test.taken c.valid_step-done.ensures.0 c.valid_step-done.ensures.1
-    (search rules) (search rules) (search rules) (search rules)
+    let stepped = c.valid_step-done.ensures in
+    went c.loop-at.invariant c.loop-at-test.true stepped.registers_after stepped.registers_after_2
 
 pub returns : goal.returns
-returns c =
-    over c.loop-at.invariant c.loop-at-test.false
-    -- TODO returns-then-not-are_valid: before the start: rw (refused _ _ (tested c.before) c.if1.true)
-    -- TODO returns-then-is_kept: before the start: let called = c.before.before in
-    let asked = called.before.before.before in
-    let else1 = asked.before in
-    let one = asked.is-kept.ensures called.before.before.if2.true in
-    kept _ _ _ called.collect.result _ (passed _ _ (tested else1.before) else1.if1.false) one.0 one.1
-    called.collect.ensures
-    -- TODO loop-at-init: before the start: let else1 = c.before.before in begun _ _ _ (passed _ _ (tested else1.before) else1.if1.false)
-    -- TODO overflow_add-at: before the start: let called = at-valid-step c in
-    let in-loop = in-loop-of called in
-    let u = valid-step-used in-loop.before.loop.inv in-loop.loop-test.taken called.valid-step.ensures.0 in
-    let at-are-valid = in-loop.before.before.before.before.before in
-    let start = start_of at-are-valid in
-    omega (arith, start.good.1.0)
+returns c = over c.loop-at.invariant c.loop-at-test.false

@@ -1,7 +1,6 @@
 -- `responder::sending::send` meets its contract.
 -- Assumes nothing.
 use mathlib.Core.List.{◌++◌}
-use borrow.Author.Rules.{rules}
 use Rattle.responder.specs.Receive.{reply_bytes}
 use Rattle.responder.proofs.SendingLaws.{sent}
 use Rattle.responder.proofs.sending.send.Goals as goal
@@ -9,5 +8,6 @@ use Rattle.responder.proofs.sending.send.Goals as goal
 pub returns : goal.returns
 returns c =
     let a = c.args in
-    sent (reply_bytes a.reply a.command (a.head.now ++ a.rest.now)) a.outbox.now c.requires.0
-    c.write_reply-n.ensures.0 c.write_reply-n.ensures.1.1 c.set_pending.ensures
+    let w = c.write_reply-n.ensures in
+    sent (reply_bytes a.reply a.command (a.head.now ++ a.rest.now)) a.outbox.now c.requires.outbox_length_in_bounds w.value
+    w.outbox_after c.set_pending.ensures

@@ -9,10 +9,8 @@ use Rattle.responder.proofs.settings.cleared_for.Goals as goal
 
 pub returns-then-key-eq-PASSPHRASE_KEY : goal.returns-then-key-eq-PASSPHRASE_KEY
 unfolding cleared_for longest_setting
-returns-then-key-eq-PASSPHRASE_KEY c =
-    rw (eq-eqb _ _ c.if-key-eq-PASSPHRASE_KEY.true, c.if-key-eq-PASSPHRASE_KEY.true) (refl, omega arith)
+returns-then-key-eq-PASSPHRASE_KEY c = rw (eq-eqb _ _ c.if-key-eq-PASSPHRASE_KEY.true, c.if-key-eq-PASSPHRASE_KEY.true) (refl, omega arith)
 
 pub returns : goal.returns
 unfolding cleared_for
-returns c =
-    rw (ne_eqb _ _ c.if-key-eq-PASSPHRASE_KEY.false) (refl, omega arith)
+returns c = rw (ne_eqb _ _ c.if-key-eq-PASSPHRASE_KEY.false) (refl, omega arith)

@@ -1,10 +1,8 @@
 -- `responder::settings::set_key` meets its contract.
 -- Assumes nothing.
-use borrow.Author.Rules.{rules}
 use Rattle.responder.specs.Receive.{key_set_answered}
 use Rattle.responder.proofs.settings.set_key.Goals as goal
 
 pub returns : goal.returns
 unfolding key_set_answered
-returns c =
-    rw (c.send_byte.ensures, ← c.read_u8.ensures, ← c.store-result.ensures)
+returns c = rw (c.send_byte.ensures, ← c.read_u8.ensures, ← c.store-result.ensures)

@@ -16,13 +16,11 @@ within key h k = offset-within key (record { lower = h; upper = k })
 
 pub returns-then-key-gt-HIGHEST_KEY : goal.returns-then-key-gt-HIGHEST_KEY
 unfolding store_bytes
-returns-then-key-gt-HIGHEST_KEY c =
-    search cases
+returns-then-key-gt-HIGHEST_KEY c = search cases
 
 pub returns-then-key-lt-FIRST_SETTING : goal.returns-then-key-lt-FIRST_SETTING
 unfolding store_bytes
-returns-then-key-lt-FIRST_SETTING c =
-    search cases
+returns-then-key-lt-FIRST_SETTING c = search cases
 
 pub store_at-requires : goal.store_at-requires
 store_at-requires c =

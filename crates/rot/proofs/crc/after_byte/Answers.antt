@@ -2,7 +2,6 @@
 -- Assumes nothing.
 use mathlib.Core.Path.{sym}
 use native.Mathlib.Omega.{arith}
-use borrow.Author.Rules.{rules}
 use Rattle.rot.proofs.Register.{by-table}
 use Rattle.rot.proofs.crc.after_byte.Goals as goal
 

@@ -1,11 +1,9 @@
 -- `rot::crc::after_bytes` meets its contract. The loop keeps what the register comes to over the bytes that are left.
 -- Assumes nothing.
-use mathlib.Core.Path.{◌≡◌, refl}
+use mathlib.Core.Path.{◌≡◌}
 use Prim.Native.Nat.{◌-◌, ◌≤◌}
-use borrow.Author.Rules.{rules}
 use lib.ListN.{length, drop}
 use Rattle.rot.specs.Crc.{after_bytes}
-use Rattle.rot.proofs.Register.{after-step, after-end}
 use Rattle.rot.proofs.crc.after_bytes.Given as goal
 
 abbrev pub invariant-loop-i : goal.invariant-loop-i

@@ -1,6 +1,5 @@
 -- `rot::crc::crc` meets its contract.
 -- Assumes nothing.
-use borrow.Author.Rules.{rules}
 use Rattle.rot.specs.Crc.{crc}
 use Rattle.rot.proofs.crc.crc.Goals as goal
 

@@ -1,6 +1,5 @@
 -- `rot::crc::crc_of_parts` meets its contract.
 -- Assumes nothing.
-use borrow.Author.Rules.{rules}
 use Rattle.rot.specs.Crc.{crc}
 use Rattle.rot.proofs.Register.{after-append}
 use Rattle.rot.proofs.crc.crc_of_parts.Goals as goal

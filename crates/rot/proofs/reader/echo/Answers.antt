@@ -1,6 +1,5 @@
 -- `rot::reader::echo` meets its contract.
 -- Assumes nothing.
-use borrow.Author.Rules.{rules}
 use Rattle.rot.specs.Reading
 use Rattle.rot.specs.Writing
 use Rattle.rot.proofs.reader.echo.Goals as goal
@@ -8,9 +7,9 @@ use Rattle.rot.proofs.reader.echo.Goals as goal
 pub returns-in-Done : goal.returns-in-Done
 unfolding Reading.rot_read_report Writing.rot_write_report
 returns-in-Done c =
-    rw (← c.write-written.ensures, c.written-1.given.1)
+    rw (← c.write-written.ensures, c.in-Done.is)
 
 pub returns-in-Refused : goal.returns-in-Refused
 unfolding Reading.rot_read_report Writing.rot_write_report
 returns-in-Refused c =
-    rw (← c.write-written.ensures, c.written-in-Refused-1.given.1)
+    rw (← c.write-written.ensures, c.in-Refused.is)

@@ -1,10 +1,9 @@
 -- `rot::reader::has_its_crc` meets its contract.
 -- Assumes nothing.
-use borrow.Author.Rules.{rules}
 use Rattle.rot.proofs.Judging.{crc-tested}
 use Rattle.rot.proofs.reader.has_its_crc.Goals as goal
 
 pub returns : goal.returns
 returns c =
-    crc-tested c.args.input.now c.requires c.part-start.ensures.0 c.part-payload.ensures.0 c.read_u32.ensures
+    crc-tested c.args.input.now c.requires c.part-start.ensures.result_value c.part-payload.ensures.result_value c.read_u32.ensures
     c.crc_of_parts.ensures

@@ -1,7 +1,6 @@
 -- `rot::reader::judge` meets its contract.
 -- Assumes nothing.
 use mathlib.Core.Path.{◌∙◌}
-use borrow.Author.Rules.{rules}
 use Rattle.rot.specs.Answers.{refusal_number}
 use Rattle.rot.specs.Reading.{judged_as}
 use Rattle.rot.proofs.Judging.{no-input, null-sent, bad-protocol, short-header, header_read}

@@ -1,7 +1,6 @@
 -- `rot::reader::judge_length` meets its contract.
 -- Assumes nothing.
 use mathlib.Core.Path.{◌∙◌}
-use borrow.Author.Rules.{rules}
 use Rattle.rot.specs.Answers.{refusal_number}
 use Rattle.rot.specs.Reading.{judged_as}
 use Rattle.rot.proofs.Judging.{too_long, cut_short, payload-read}

@@ -1,6 +1,5 @@
 -- `rot::reader::judge_message` meets its contract.
 -- Assumes nothing.
-use borrow.Author.Rules.{rules}
 use Rattle.rot.specs.Answers.{refusal_number}
 use Rattle.rot.specs.Reading.{judged_as}
 use Rattle.rot.proofs.Judging.{bad-crc, bad-type, accepted}

@@ -45,5 +45,5 @@ entries =
 
 pub returns : goal.returns
 unfolding entries shift shifts table_entry
-returns c =
+returns c byte h =
     entry-rule table_entry entries refl byte h

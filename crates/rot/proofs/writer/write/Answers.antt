@@ -1,8 +1,6 @@
 -- `rot::writer::write` meets its contract.
 -- Assumes nothing.
 use mathlib.Core.Path.{sym, ◌∙◌}
-use borrow.Author.Rules.{rules}
-use borrow.Author.Tests.{not-true, not-false}
 use Rattle.rot.specs.Answers.{refusal_number}
 use Rattle.rot.specs.Writing.{rot_write_report}
 use Rattle.rot.proofs.Writing.{write-long, write-unlisted, write-no-room, write_done}
@@ -16,15 +14,15 @@ returns-then-payload-gt-LONGEST_PAYLOAD c =
 pub returns-then-not-is_listed : goal.returns-then-not-is_listed
 unfolding refusal_number rot_write_report
 returns-then-not-is_listed c =
-    write-unlisted _ _ c.if-payload-gt-LONGEST_PAYLOAD.false (sym c.is_listed.ensures ∙ not-true _ c.if-not-is_listed.true)
+    write-unlisted _ _ c.if-payload-gt-LONGEST_PAYLOAD.false (sym c.is_listed.ensures ∙ c.if-not-is_listed.true)
 
 pub returns-then-out-payload : goal.returns-then-out-payload
 unfolding refusal_number rot_write_report
 returns-then-out-payload c =
-    write-no-room _ _ c.if-payload-gt-LONGEST_PAYLOAD.false (sym c.is_listed.ensures ∙ not-false _ c.if-not-is_listed.false) c.if-out-payload.true
+    write-no-room _ _ c.if-payload-gt-LONGEST_PAYLOAD.false (sym c.is_listed.ensures ∙ c.if-not-is_listed.false) c.if-out-payload.true
 
 pub returns : goal.returns
 unfolding rot_write_report
 returns c =
-    write_done _ _ c.if-payload-gt-LONGEST_PAYLOAD.false (sym c.is_listed.ensures ∙ not-false _ c.if-not-is_listed.false) c.if-out-payload.false
+    write_done _ _ c.if-payload-gt-LONGEST_PAYLOAD.false (sym c.is_listed.ensures ∙ c.if-not-is_listed.false) c.if-out-payload.false
     c.put.ensures

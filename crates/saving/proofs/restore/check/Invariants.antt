@@ -1,13 +1,10 @@
 -- `saving::restore::check` meets its contract. The loop's invariant: the first fault from the offset on is the image's.
 -- Assumes nothing.
-use mathlib.Core.Path.{◌≡◌, refl, sym, ap, ◌∙◌}
+use mathlib.Core.Path.{◌≡◌}
 use Prim.Native.Nat.{◌-◌, ◌≤◌}
-use native.Mathlib.Omega.{arith}
-use borrow.Author.Rules.{rules}
 use lib.ListN.{length}
 use Rattle.saving.specs.Saving.{read_image_from, read_image}
-use Rattle.saving.specs.Calls.{fault_in, image_step_of, found_of}
-use Rattle.saving.proofs.ReadLaws.{read_at, further, fault-behind}
+use Rattle.saving.specs.Calls.{fault_in}
 use Rattle.saving.proofs.restore.check.Given as goal
 
 abbrev pub invariant-loop-key : goal.invariant-loop-key

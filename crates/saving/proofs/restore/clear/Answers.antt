@@ -1,10 +1,8 @@
 -- `saving::restore::clear` meets its contract. The loop's invariant: the first i settings are cleared.
 -- Assumes nothing.
 use mathlib.Core.Path.{◌≡◌, refl}
-use Prim.Native.Nat.{◌-◌, ◌≤◌}
 use native.Mathlib.Omega.{arith}
 use borrow.Author.Rules.{rules}
-use lib.ListN.{length}
 use Rattle.saving.specs.Saving.{saved_count}
 use Rattle.saving.specs.Calls.{cleared}
 use Rattle.saving.proofs.RestoreLaws.{head-room, cleared_more}

@@ -1,8 +1,8 @@
 -- `saving::restore::pass` meets its contract.
 -- Assumes nothing.
-use mathlib.Core.Path.{◌∙◌}
+use mathlib.Core.Path.{ap, ◌∙◌}
+use mathlib.Core.Bool.{not}
 use native.Mathlib.Omega.{arith}
-use borrow.Author.Rules.{rules}
 use Rattle.saving.specs.Calls.{image_step_of}
 use Rattle.saving.proofs.StepLaws.{mark-cut, bytes-behind, end-good, mark-wrong, key-cut, key-wrong, key-good}
 use Rattle.saving.proofs.restore.pass.Goals as goal
@@ -25,25 +25,23 @@ returns-then-same c =
 pub returns-then-not-same : goal.returns-then-not-same
 unfolding image_step_of
 returns-then-not-same c =
-    mark-wrong _ _ _ (omega arith) c.same.ensures c.if-same.left c.same-2.ensures c.if-not-same.true
+    mark-wrong _ _ _ (omega arith) c.same.ensures c.if-same.false c.same-2.ensures (ap not c.if-not-same.true)
 
 pub returns-then-left-lt-EDITION_OFFSET : goal.returns-then-left-lt-EDITION_OFFSET
 unfolding image_step_of
 returns-then-left-lt-EDITION_OFFSET c =
-    key-cut _ _ _ (omega arith) c.same.ensures c.if-same.left c.same-2.ensures c.if-not-same.false
+    key-cut _ _ _ (omega arith) c.same.ensures c.if-same.false c.same-2.ensures (ap not c.if-not-same.false)
     (omega arith)
 
 pub returns-then-not-key_follows : goal.returns-then-not-key_follows
 unfolding image_step_of
 returns-then-not-key_follows c =
-    key-wrong _ _ _ (omega arith) c.same.ensures c.if-same.left c.same-2.ensures c.if-not-same.left
-    (omega arith) c.read_u8.ensures c.key_follows.ensures c.if-not-key_follows.true
+    key-wrong _ _ _ (omega arith) c.same.ensures c.if-same.false c.same-2.ensures (ap not c.if-not-same.false)
+    (omega arith) c.read_u8.ensures c.key_follows.ensures (ap not c.if-not-key_follows.true)
 
 pub returns : goal.returns
 unfolding image_step_of
 returns c =
     c.pass_record.ensures
-    ∙ key-good _ _ _ (omega arith) c.same.ensures c.if-same.left c.same-2.ensures c.if-not-same.left
-    (omega arith) c.read_u8.ensures c.key_follows.ensures c.if-not-key_follows.false
-
--- TODO: 18 answers for 16 goals; new goals: ['overflow_sub-left', 'returns-then-left-lt-MARK_LENGTH', 'same-requires', 'overflow_add-result', 'returns-then-left-gt-MARK_LENGTH', 'returns-then-same', 'same-requires-2', 'returns-then-not-same', 'returns-then-left-lt-EDITION_OFFSET', 'overflow_add-at', 'read_u8-requires', 'key_follows-requires', 'overflow_add-result-then-not-key_follows', 'returns-then-not-key_follows', 'pass_record-requires', 'returns']
+    ∙ key-good _ _ _ (omega arith) c.same.ensures c.if-same.false c.same-2.ensures (ap not c.if-not-same.false)
+    (omega arith) c.read_u8.ensures c.key_follows.ensures (ap not c.if-not-key_follows.false)

@@ -1,7 +1,6 @@
 -- `saving::restore::pass_record` meets its contract.
 -- Assumes nothing.
 use native.Mathlib.Omega.{arith}
-use borrow.Author.Rules.{rules}
 use Rattle.saving.specs.Calls.{image_step_of}
 use Rattle.saving.proofs.StepLaws.{head-cut, value-long, value-cut, sum-wrong, record-good}
 use Rattle.saving.proofs.restore.pass_record.Goals as goal
@@ -26,8 +25,7 @@ returns-then-left-n c =
 pub returns-then-read_u16-sum : goal.returns-then-read_u16-sum
 unfolding image_step_of
 returns-then-read_u16-sum c =
-    let most = ⟦After-longest_setting⟧ in
-    sum-wrong _ _ _ _ _ most.before.word_at.ensures.0 (at-read-u8 most).read-u8.ensures most.longest_setting.ensures.0
+    sum-wrong _ _ _ _ _ c.word_at-n.ensures.0 c.read_u8-key.ensures c.longest_setting.ensures.0
     (omega arith)
     c.if-longest_setting-n.false _ _ (omega arith) c.checksum_of-sum.ensures c.read_u16.ensures
     c.if-read_u16-sum.true
@@ -35,10 +33,6 @@ returns-then-read_u16-sum c =
 pub returns : goal.returns
 unfolding image_step_of
 returns c =
-    let most = ⟦After-longest_setting⟧ in
-    record-good _ _ _ _ _ most.before.word_at.ensures.0 (at-read-u8 most).read-u8.ensures most.longest_setting.ensures.0
+    record-good _ _ _ _ _ c.word_at-n.ensures.0 c.read_u8-key.ensures c.longest_setting.ensures.0
     (omega arith)
     c.if-longest_setting-n.false _ _ (omega arith) c.checksum_of-sum.ensures c.read_u16.ensures c.if-read_u16-sum.false
-
--- TODO a place is left in returns-then-read_u16-sum
--- TODO a place is left in returns

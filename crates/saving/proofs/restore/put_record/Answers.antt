@@ -13,14 +13,14 @@ set_head-requires c =
       arith,
       c.setting_offset-to.ensures.0,
       ap setting_offset c.read_u8.ensures,
-      whole_room _ _ c.requires.1,
+      whole_room _ _ c.requires.whole_record,
     )
 
 pub returns : goal.returns
 returns c =
     record {
       value = search rules;
-      settings_after = entry-put _ _ c.pre.1 _ c.word_at-n.ensures.0 c.read_u8.ensures
+      settings_after = entry-put _ _ c.requires.whole_record _ c.word_at-n.ensures.0 c.read_u8.ensures
           c.setting_offset-to.ensures.0
-          c.read_u32-edition.ensures c.pre.0 c.set_head.ensures c.copy.ensures;
+          c.read_u32-edition.ensures c.requires.settings_length_in_bounds c.set_head.ensures c.copy.ensures;
     }

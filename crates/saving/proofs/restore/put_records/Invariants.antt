@@ -2,21 +2,16 @@
 -- Assumes nothing.
 use mathlib.Core.Path.{◌≡◌}
 use Prim.Native.Nat.{◌-◌}
-use native.Mathlib.Omega.{arith}
-use borrow.Author.Rules.{rules}
 use lib.ListN.{length}
-use Rattle.supervisor.proofs.Cases.{refused}
-use Rattle.supervisor.proofs.ValidLaws.{passed}
 use Rattle.saving.specs.Saving.{read_image}
 use Rattle.saving.specs.Calls.{entries_in, put_entries}
-use Rattle.saving.proofs.RestoreLaws.{Left, all_left, whole_here, on-left, none_left}
+use Rattle.saving.proofs.RestoreLaws.{Left}
 use Rattle.saving.proofs.restore.put_records.Given as goal
 
--- TODO: 6 variables for 5: ['settings₀', 'image', 'at₀', 't4', 'settings', 'at'] ['l.initial.settings', 'l.image', 'l.initial.at', 'l.settings', 'l.at']
 abbrev pub invariant-loop-settings : goal.invariant-loop-settings
 invariant-loop-settings l =
-    (length l.at ≡ length l.initial.settings) × (Left l.image l.at at (put_entries (entries_in (read_image l.image)) l.initial.settings))
+    (length l.settings ≡ length l.initial.settings)
+    × (Left l.image l.settings l.at (put_entries (entries_in (read_image l.image)) l.initial.settings))
 
--- TODO: 6 variables for 5: ['settings₀', 'image', 'at₀', 't4', 'settings', 'at'] ['l.initial.settings', 'l.image', 'l.initial.at', 'l.settings', 'l.at']
 abbrev pub decreases-loop-settings : goal.decreases-loop-settings
-decreases-loop-settings l = length l.image - at
+decreases-loop-settings l = length l.image - l.at

@@ -1,14 +1,8 @@
 -- `saving::restore::set_head` meets its contract.
 -- Assumes nothing.
-use mathlib.Core.Path.{◌∙◌}
 use borrow.Author.Rules.{rules}
-use lib.ListN.{length-set}
 use Rattle.saving.proofs.StoreLaws.{head-put}
 use Rattle.saving.proofs.restore.set_head.Goals as goal
-
-pub shape_of-settings : goal.shape_of-settings
-shape_of-settings c =
-    c.settings-2-1.given ∙ c.settings-1.given ∙ simp length-set
 
 pub returns : goal.returns
 returns c =

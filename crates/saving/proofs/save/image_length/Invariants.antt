@@ -1,15 +1,11 @@
 -- `saving::save::image_length` meets its contract. The loop's invariant: n and the length of the records left are the image's length.
 -- Assumes nothing.
-use mathlib.Core.Path.{◌≡◌, ap}
+use mathlib.Core.Path.{◌≡◌}
 use Prim.Native.Nat.{◌+◌, ◌-◌, ◌*◌, ◌≤◌}
-use native.Mathlib.Nat.{zero-add}
-use native.Mathlib.Omega.{arith}
-use borrow.Author.Rules.{rules}
 use lib.ListN.{length}
 use Rattle.supervisor.specs.Limits.{first_setting}
 use Rattle.saving.specs.Saving.{saved_count}
 use Rattle.saving.specs.Calls.{saved_records_from, image_bytes}
-use Rattle.saving.proofs.ImageLaws.{length-on, records-end}
 use Rattle.saving.proofs.save.image_length.Given as goal
 
 abbrev pub invariant-loop-i : goal.invariant-loop-i

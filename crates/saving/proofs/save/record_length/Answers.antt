@@ -17,5 +17,5 @@ returns c =
     let p = c.requires in
     let h =
     held-record _ _ _ c.setting_offset-from.ensures.0 c.read_u8.ensures c.word_at.ensures.0 c.if-read_u8-ne1.false
-    p.0 p.1 in
+    p.settings_value p.settings_key in
     (sym h.size, search rules)

@@ -1,25 +1,19 @@
 -- `saving::save::write_image` meets its contract. The loop's invariant: the records left, put at the offset, make the image whole.
 -- Assumes nothing.
-use mathlib.Core.Path.{◌≡◌, refl, ◌∙◌}
+use mathlib.Core.Path.{◌≡◌}
 use Prim.Native.Nat.{◌+◌, ◌-◌, ◌≤◌}
-use native.Mathlib.Omega.{arith}
-use borrow.Author.Rules.{rules}
 use lib.ListN.{length}
 use Rattle.octets.specs.Bytes.{overlay}
 use Rattle.supervisor.specs.Limits.{first_setting}
 use Rattle.saving.specs.Saving.{saved_count}
 use Rattle.saving.specs.Calls.{saved_records_from, image_bytes}
-use Rattle.saving.proofs.RestoreLaws.{saved-key}
-use Rattle.saving.proofs.ImageLaws.{length-on, records-put, end-put}
 use Rattle.saving.proofs.save.write_image.Given as goal
 
--- TODO: 8 variables for 7: ['settings', 'out₀', 'at₀', 'i₀', 't5', 'out', 'at', 'i'] ['l.settings', 'l.initial.out', 'l.initial.at', 'l.initial.i', 'l.out', 'l.at', 'l.i']
 abbrev pub invariant-loop-i : goal.invariant-loop-i
 invariant-loop-i l =
-    (i ≤ saved_count) × (length l.at ≡ length l.initial.out)
-    × (l.i + length (saved_records_from l.settings (saved_count - i) (first_setting + i)) ≤ length l.at)
-    × (overlay l.i (saved_records_from l.settings (saved_count - i) (first_setting + i)) l.at ≡ overlay 0 (image_bytes l.settings) l.initial.out)
+    (l.i ≤ saved_count) × (length l.out ≡ length l.initial.out)
+    × (l.at + length (saved_records_from l.settings (saved_count - l.i) (first_setting + l.i)) ≤ length l.out)
+    × (overlay l.at (saved_records_from l.settings (saved_count - l.i) (first_setting + l.i)) l.out ≡ overlay 0 (image_bytes l.settings) l.initial.out)
 
--- TODO: 8 variables for 7: ['settings', 'out₀', 'at₀', 'i₀', 't5', 'out', 'at', 'i'] ['l.settings', 'l.initial.out', 'l.initial.at', 'l.initial.i', 'l.out', 'l.at', 'l.i']
 abbrev pub decreases-loop-i : goal.decreases-loop-i
-decreases-loop-i l = saved_count - i
+decreases-loop-i l = saved_count - l.i

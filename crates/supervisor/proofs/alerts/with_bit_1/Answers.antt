@@ -1,6 +1,5 @@
 -- `supervisor::alerts::with_bit_1` meets its contract.
 -- Assumes nothing.
-use borrow.Author.Rules.{rules}
 use borrow.Author.Tests.{eq-eqb, ne_eqb}
 use Rattle.supervisor.specs.Local.{set_bit}
 use Rattle.supervisor.proofs.alerts.with_bit_1.Goals as goal

@@ -1,6 +1,5 @@
 -- `supervisor::keys::find` meets its contract.
 -- Assumes nothing.
-use borrow.Author.Rules.{rules}
 use Rattle.supervisor.specs.Calls.{location_of}
 use Rattle.supervisor.proofs.Cases.{cases}
 use Rattle.supervisor.proofs.keys.find.Goals as goal

@@ -1,6 +1,5 @@
 -- `supervisor::keys::found_at` meets its contract.
 -- Assumes nothing.
-use borrow.Author.Rules.{rules}
 use borrow.Author.Tests.{lt-ltb, le-ltb}
 use Rattle.supervisor.specs.Calls.{lookup_report, result_at}
 use Rattle.supervisor.proofs.keys.found_at.Goals as goal
@@ -13,19 +12,19 @@ returns-then-key-gt-HIGHEST_KEY c =
 pub returns-in-Factory : goal.returns-in-Factory
 unfolding result_at
 returns-in-Factory c =
-    rw (le-ltb _ _ c.if-key-gt-HIGHEST_KEY.false, c.p-1.given.1) c.size.ensures
+    rw (le-ltb _ _ c.if-key-gt-HIGHEST_KEY.false, c.in-Factory.is) c.size.ensures
 
 pub returns-in-Settings : goal.returns-in-Settings
 unfolding result_at
 returns-in-Settings c =
-    rw (le-ltb _ _ c.if-key-gt-HIGHEST_KEY.false, c.p-in-Settings-1.given.1) c.size-in-Settings.ensures
+    rw (le-ltb _ _ c.if-key-gt-HIGHEST_KEY.false, c.in-Settings.is) c.size-in-Settings.ensures
 
 pub returns-in-Nowhere : goal.returns-in-Nowhere
 unfolding lookup_report result_at
 returns-in-Nowhere c =
-    rw (le-ltb _ _ c.if-key-gt-HIGHEST_KEY.false, c.enum_told-1.given.1)
+    rw (le-ltb _ _ c.if-key-gt-HIGHEST_KEY.false, c.in-Nowhere.is)
 
 pub returns-in-SetOnly : goal.returns-in-SetOnly
 unfolding lookup_report result_at
 returns-in-SetOnly c =
-    rw (le-ltb _ _ c.if-key-gt-HIGHEST_KEY.false, c.enum_told-in-SetOnly-1.given.1)
+    rw (le-ltb _ _ c.if-key-gt-HIGHEST_KEY.false, c.in-SetOnly.is)

@@ -1,6 +1,5 @@
 -- `supervisor::keys::setting` meets its contract.
 -- Assumes nothing.
-use borrow.Author.Rules.{rules}
 use borrow.Author.Tests.{eq-eqb, ne_eqb}
 use Rattle.supervisor.specs.Calls.{setting_at}
 use Rattle.supervisor.proofs.keys.setting.Goals as goal

@@ -1,14 +1,12 @@
 -- `supervisor::keys::stores_are_valid` meets its contract.
 -- Assumes nothing.
-use borrow.Author.Rules.{rules}
-use Rattle.supervisor.proofs.ValidLaws.{passed}
-use Rattle.supervisor.proofs.Cases.{refused}
+use mathlib.Core.Path.{sym, ◌∙◌}
 use Rattle.supervisor.proofs.keys.stores_are_valid.Goals as goal
 
 pub returns-then-not-factory_is_valid : goal.returns-then-not-factory_is_valid
 returns-then-not-factory_is_valid c =
-    rw (refused _ _ c.factory_is_valid.ensures c.if-not-factory_is_valid.true)
+    rw (sym c.factory_is_valid.ensures ∙ c.if-not-factory_is_valid.true)
 
 pub returns : goal.returns
 returns c =
-    rw (passed _ _ c.factory_is_valid.ensures c.if-not-factory_is_valid.false) c.settings_are_valid.ensures
+    rw (sym c.factory_is_valid.ensures ∙ c.if-not-factory_is_valid.false) c.settings_are_valid.ensures

@@ -1,6 +1,5 @@
 -- `supervisor::loads::long` meets its contract: its two halves are joined.
 -- Assumes nothing.
-use borrow.Author.Rules.{rules}
 use Rattle.octets.proofs.Numbers.{number-join}
 use Rattle.supervisor.proofs.loads.long.Goals as goal
 

@@ -1,6 +1,5 @@
 -- `supervisor::loads::quad` meets its contract: its two halves are joined.
 -- Assumes nothing.
-use borrow.Author.Rules.{rules}
 use Rattle.octets.proofs.Numbers.{number-join}
 use Rattle.supervisor.proofs.loads.quad.Goals as goal
 

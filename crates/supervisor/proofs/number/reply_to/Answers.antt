@@ -1,6 +1,5 @@
 -- `number::reply_to` meets its contract.
 -- Assumes nothing.
-use borrow.Author.Rules.{rules}
 use borrow.Author.Tests.{lt-ltb, le-ltb}
 use Rattle.supervisor.specs.Number.{top_set}
 use Rattle.supervisor.proofs.number.reply_to.Goals as goal

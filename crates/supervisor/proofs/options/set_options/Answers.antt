@@ -1,22 +1,19 @@
 -- `supervisor::options::set_options` meets its contract.
 -- Assumes nothing.
 use mathlib.Core.Path.{sym, ◌∙◌}
-use borrow.Author.Rules.{rules}
-use borrow.Author.Tests.{not-true}
-use Rattle.supervisor.proofs.ValidLaws.{passed}
 use Rattle.supervisor.proofs.OptionLaws.{options-refused, options-bad, options-done}
 use Rattle.supervisor.proofs.options.set_options.Goals as goal
 
 pub returns-then-not-registers_are_valid : goal.returns-then-not-registers_are_valid
 returns-then-not-registers_are_valid c =
-    options-refused _ _ (sym c.registers_are_valid.ensures ∙ not-true _ c.if-not-registers_are_valid.true)
+    options-refused _ _ (sym c.registers_are_valid.ensures ∙ c.if-not-registers_are_valid.true)
 
 pub returns-then-not-options_are_allowed : goal.returns-then-not-options_are_allowed
 returns-then-not-options_are_allowed c =
-    options-bad _ _ (passed _ _ c.registers_are_valid.ensures c.if-not-registers_are_valid.false)
-    (sym c.options_are_allowed.ensures ∙ not-true _ c.if-not-options_are_allowed.true)
+    options-bad _ _ (sym c.registers_are_valid.ensures ∙ c.if-not-registers_are_valid.false)
+    (sym c.options_are_allowed.ensures ∙ c.if-not-options_are_allowed.true)
 
 pub returns : goal.returns
 returns c =
-    options-done _ _ (passed _ _ c.registers_are_valid.ensures c.if-not-registers_are_valid.false)
-    (passed _ _ c.options_are_allowed.ensures c.if-not-options_are_allowed.false) c.write_u64.ensures
+    options-done _ _ (sym c.registers_are_valid.ensures ∙ c.if-not-registers_are_valid.false)
+    (sym c.options_are_allowed.ensures ∙ c.if-not-options_are_allowed.false) c.write_u64.ensures

@@ -7,9 +7,9 @@ use Rattle.supervisor.proofs.registers.record_offset.Goals as goal
 pub returns-in-BootFailure : goal.returns-in-BootFailure
 unfolding record_offset
 returns-in-BootFailure c =
-    (rw c.enum_told-1.given.1, search rules)
+    (rw c.in-BootFailure.is, search rules)
 
 pub returns-in-Panic : goal.returns-in-Panic
 unfolding record_offset
 returns-in-Panic c =
-    (rw c.enum_told-in-Panic-1.given.1, search rules)
+    (rw c.in-Panic.is, search rules)

@@ -11,5 +11,3 @@ pub returns : goal.returns
 returns c =
     stored start_length 4 4 _ _ _ _ _ _ _ (search rules) (length-bytes 4 0) refl (search rules)
     c.copy.ensures c.write_u32.ensures c.copy-2.ensures
-
--- TODO: 6 answers for 5 goals; new goals: ['copy-requires', 'write_u32-requires', 'copy-requires-2', 'shape_of-factory', 'returns']

@@ -2,7 +2,6 @@
 -- Assumes nothing.
 use mathlib.Core.Path.{◌∙◌, sym}
 use borrow.Author.Rules.{rules}
-use borrow.Author.Tests.{not-true, not-false}
 use native.Mathlib.Omega.{arith}
 use Rattle.supervisor.proofs.StartLaws.{cramped, unfit, begun}
 use Rattle.supervisor.proofs.start.start.Goals as goal
@@ -29,12 +28,10 @@ returns-then-registers-lt-REGISTERS_LENGTH c =
 
 pub returns-then-not-start_is_good : goal.returns-then-not-start_is_good
 returns-then-not-start_is_good c =
-    unfit _ _ (search rules) (sym c.start_is_good.ensures ∙ not-true _ c.if-not-start_is_good.true)
+    unfit _ _ (search rules) (sym c.start_is_good.ensures ∙ c.if-not-start_is_good.true)
 
 pub returns : goal.returns
 returns c =
-    begun _ _ _ _ (omega (arith, ⟦Else6⟧)) (sym c.start_is_good.ensures ∙ not-false _ c.if-not-start_is_good.false)
+    begun _ _ _ _ (omega arith) (sym c.start_is_good.ensures ∙ c.if-not-start_is_good.false)
     c.start.ensures c.clear.ensures c.set_factory.ensures c.clear-2.ensures
     c.set_registers.ensures
-
--- TODO a place is left in returns

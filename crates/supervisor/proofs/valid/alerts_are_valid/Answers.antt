@@ -1,13 +1,10 @@
 -- `valid::alerts_are_valid` meets its contract. The loop's invariant: it is at alert i, and those before it are valid.
 -- Assumes nothing.
-use mathlib.Core.Path.{◌≡◌}
-use mathlib.Core.Bool.{true}
-use Prim.Native.Nat.{◌-◌, ◌≤◌}
+use mathlib.Core.Path.{sym, ◌∙◌}
+use mathlib.Core.Bool.{false≢true}
 use native.Mathlib.Omega.{arith}
 use borrow.Author.Rules.{rules}
-use Rattle.supervisor.specs.Layout.{alert_offset}
-use Rattle.supervisor.specs.Valid.{valid_alerts}
-use Rattle.supervisor.proofs.ValidLaws.{untrue, passed, failed, all_none, all_more, all_done, all-each, text-valid, valid-text}
+use Rattle.supervisor.proofs.ValidLaws.{untrue, all_none, all_more, all_done, all-each, text-valid, valid-text}
 use Rattle.supervisor.proofs.ValidLaws.{alert-valid, valid-alert}
 use Rattle.supervisor.proofs.valid.alerts_are_valid.Goals as goal
 
@@ -19,8 +16,7 @@ pub returns-then-not-text_is_valid : goal.returns-then-not-text_is_valid
 returns-then-not-text_is_valid c =
     let l = c.loop-i in
     untrue _ (λ e.
-    failed _ _ c.text_is_valid.ensures c.if-not-text_is_valid.true
-    (rw l.invariant.0 (valid-text _ _ (alert-valid _ _ (all-each _ _ e l.i c.loop-i-test.true)).size)))
+    false≢true (sym c.if-not-text_is_valid.true ∙ (c.text_is_valid.ensures ∙ (rw l.invariant.0 (valid-text _ _ (alert-valid _ _ (all-each _ _ e l.i c.loop-i-test.true)).size)))))
 
 pub returns-then-byte-eq0 : goal.returns-then-byte-eq0
 returns-then-byte-eq0 c =
@@ -34,7 +30,7 @@ loop-i-preserved c =
       search rules,
       search rules,
       all_more _ _ l.invariant.2 (valid-alert _ _ (record {
-        size = text-valid _ _ (rw l.invariant.0 at (passed _ _ c.text_is_valid.ensures c.if-not-text_is_valid.false));
+        size = text-valid _ _ (rw l.invariant.0 at (sym c.text_is_valid.ensures ∙ c.if-not-text_is_valid.false));
         action = omega (arith, rw l.invariant.0 at c.byte.ensures.0);
       })),
     )

@@ -3,12 +3,8 @@
 use mathlib.Core.Path.{◌≡◌}
 use mathlib.Core.Bool.{true}
 use Prim.Native.Nat.{◌-◌, ◌≤◌}
-use native.Mathlib.Omega.{arith}
-use borrow.Author.Rules.{rules}
 use Rattle.supervisor.specs.Layout.{alert_offset}
 use Rattle.supervisor.specs.Valid.{valid_alerts}
-use Rattle.supervisor.proofs.ValidLaws.{untrue, passed, failed, all_none, all_more, all_done, all-each, text-valid, valid-text}
-use Rattle.supervisor.proofs.ValidLaws.{alert-valid, valid-alert}
 use Rattle.supervisor.proofs.valid.alerts_are_valid.Given as goal
 
 abbrev pub invariant-loop-i : goal.invariant-loop-i

@@ -1,13 +1,10 @@
 -- `valid::items_are_good` meets its contract. The loop's invariant: it is at item i, and those before it are good.
 -- Assumes nothing.
-use mathlib.Core.Path.{◌≡◌}
-use mathlib.Core.Bool.{true}
-use Prim.Native.Nat.{◌-◌, ◌≤◌}
+use mathlib.Core.Path.{sym, ◌∙◌}
+use mathlib.Core.Bool.{false≢true}
 use native.Mathlib.Omega.{arith}
 use borrow.Author.Rules.{rules}
-use Rattle.supervisor.specs.Layout.{item_offset}
-use Rattle.supervisor.specs.Valid.{good_items}
-use Rattle.supervisor.proofs.ValidLaws.{untrue, passed, failed, all_none, all_more, all_done, all-each, item-good, good-item}
+use Rattle.supervisor.proofs.ValidLaws.{untrue, all_none, all_more, all_done, all-each, item-good, good-item}
 use Rattle.supervisor.proofs.valid.items_are_good.Goals as goal
 
 pub loop-i-init : goal.loop-i-init
@@ -18,8 +15,7 @@ pub returns-then-not-result_is_allowed : goal.returns-then-not-result_is_allowed
 returns-then-not-result_is_allowed c =
     let l = c.loop-i in
     untrue _ (λ e.
-    failed _ _ c.result_is_allowed.ensures c.if-not-result_is_allowed.true
-    (rw (c.byte.ensures.0, l.invariant.0) (item-good _ _ (all-each _ _ e l.i c.loop-i-test.true)).result))
+    false≢true (sym c.if-not-result_is_allowed.true ∙ (c.result_is_allowed.ensures ∙ (rw (c.byte.ensures.0, l.invariant.0) (item-good _ _ (all-each _ _ e l.i c.loop-i-test.true)).result))))
 
 pub returns-then-byte-gt-LONGEST_ITEM_DATA : goal.returns-then-byte-gt-LONGEST_ITEM_DATA
 returns-then-byte-gt-LONGEST_ITEM_DATA c =
@@ -34,7 +30,7 @@ loop-i-preserved c =
       search rules,
       all_more _ _ l.invariant.2 (good-item _ _ (record {
         result =
-            rw (c.byte.ensures.0, l.invariant.0) at (passed _ _ c.result_is_allowed.ensures c.if-not-result_is_allowed.false);
+            rw (c.byte.ensures.0, l.invariant.0) at (sym c.result_is_allowed.ensures ∙ c.if-not-result_is_allowed.false);
         size = omega (arith, rw l.invariant.0 at c.byte-in-loop-i.ensures.0);
       })),
     )

@@ -3,11 +3,8 @@
 use mathlib.Core.Path.{◌≡◌}
 use mathlib.Core.Bool.{true}
 use Prim.Native.Nat.{◌-◌, ◌≤◌}
-use native.Mathlib.Omega.{arith}
-use borrow.Author.Rules.{rules}
 use Rattle.supervisor.specs.Layout.{item_offset}
 use Rattle.supervisor.specs.Valid.{good_items}
-use Rattle.supervisor.proofs.ValidLaws.{untrue, passed, failed, all_none, all_more, all_done, all-each, item-good, good-item}
 use Rattle.supervisor.proofs.valid.items_are_good.Given as goal
 
 abbrev pub invariant-loop-i : goal.invariant-loop-i

@@ -1,9 +1,10 @@
 -- `valid::records_and_alerts_are_valid` meets its contract.
 -- Assumes nothing.
+use mathlib.Core.Bool.{false≢true}
 use mathlib.Core.Path.{sym, ◌∙◌}
 use native.Mathlib.Omega.{arith}
 use borrow.Author.Rules.{rules}
-use Rattle.supervisor.proofs.ValidLaws.{untrue, alike, passed, failed, record-valid, valid-record, text-valid, valid-text}
+use Rattle.supervisor.proofs.ValidLaws.{untrue, alike, record-valid, valid-record, text-valid, valid-text}
 use Rattle.supervisor.proofs.ValidLaws.{records-and-alerts-valid, valid-records-and-alerts}
 use Rattle.supervisor.proofs.valid.records_and_alerts_are_valid.Goals as goal
 
@@ -14,12 +15,12 @@ returns-then-word-gt255 c =
 pub returns-then-not-record_is_valid : goal.returns-then-not-record_is_valid
 returns-then-not-record_is_valid c =
     untrue _ (λ e.
-    failed _ _ c.record_is_valid.ensures c.if-not-record_is_valid.true (valid-record _ _ _ (records-and-alerts-valid _ e).boot-failure))
+    false≢true (sym c.if-not-record_is_valid.true ∙ (c.record_is_valid.ensures ∙ (valid-record _ _ _ (records-and-alerts-valid _ e).boot-failure))))
 
 pub returns-then-not-record_is_valid-2 : goal.returns-then-not-record_is_valid-2
 returns-then-not-record_is_valid-2 c =
     untrue _ (λ e.
-    failed _ _ c.record_is_valid-2.ensures c.if-not-record_is_valid-2.true (valid-record _ _ _ (records-and-alerts-valid _ e).panic))
+    false≢true (sym c.if-not-record_is_valid-2.true ∙ (c.record_is_valid-2.ensures ∙ (valid-record _ _ _ (records-and-alerts-valid _ e).panic))))
 
 pub returns-then-count-gt-MOST_ALERTS : goal.returns-then-count-gt-MOST_ALERTS
 returns-then-count-gt-MOST_ALERTS c =
@@ -28,8 +29,7 @@ returns-then-count-gt-MOST_ALERTS c =
 pub returns-then-not-alerts_are_valid : goal.returns-then-not-alerts_are_valid
 returns-then-not-alerts_are_valid c =
     untrue _ (λ e.
-    failed _ _ c.alerts_are_valid.ensures c.if-not-alerts_are_valid.true
-    (rw c.byte-count.ensures.0 (records-and-alerts-valid _ e).alerts))
+    false≢true (sym c.if-not-alerts_are_valid.true ∙ (c.alerts_are_valid.ensures ∙ (rw c.byte-count.ensures.0 (records-and-alerts-valid _ e).alerts))))
 
 pub returns-then-byte-gt2 : goal.returns-then-byte-gt2
 returns-then-byte-gt2 c =
@@ -40,10 +40,10 @@ returns c =
     alike _ _
     (λ t. valid-records-and-alerts _ (record {
       reason = search rules;
-      boot-failure = record-valid _ _ _ (passed _ _ c.record_is_valid.ensures c.if-not-record_is_valid.false);
-      panic = record-valid _ _ _ (passed _ _ c.record_is_valid-2.ensures c.if-not-record_is_valid-2.false);
+      boot-failure = record-valid _ _ _ (sym c.record_is_valid.ensures ∙ c.if-not-record_is_valid.false);
+      panic = record-valid _ _ _ (sym c.record_is_valid-2.ensures ∙ c.if-not-record_is_valid-2.false);
       count = search rules;
-      alerts = rw (← c.byte-count.ensures.0) (passed _ _ c.alerts_are_valid.ensures c.if-not-alerts_are_valid.false);
+      alerts = rw (← c.byte-count.ensures.0) (sym c.alerts_are_valid.ensures ∙ c.if-not-alerts_are_valid.false);
       retained = search rules;
       text = text-valid _ _ (sym c.text_is_valid.ensures ∙ t);
     }))

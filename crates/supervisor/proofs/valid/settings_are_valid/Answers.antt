@@ -1,7 +1,6 @@
 -- `valid::settings_are_valid` meets its contract.
 -- Assumes nothing.
 use native.Mathlib.Omega.{arith}
-use borrow.Author.Rules.{rules}
 use borrow.Author.Tests.{le-leb}
 use Rattle.supervisor.specs.Valid.{valid_settings}
 use Rattle.supervisor.proofs.ValidLaws.{untrue, settings-valid}

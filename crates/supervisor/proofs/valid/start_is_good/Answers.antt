@@ -5,6 +5,7 @@ use native.Mathlib.Omega.{arith}
 use borrow.Author.Rules.{rules}
 use Rattle.supervisor.proofs.ValidLaws.{untrue, alike, start-good, good_start_lem}
 use Rattle.supervisor.proofs.valid.start_is_good.Goals as goal
+use Rattle.supervisor.proofs.valid.start_is_good.Goals.{then-bsu-ne-BSU_A+else-bsu-ne-BSU_B, else-bsu-ne-BSU_A}
 
 pub returns-then-bsu-ne-BSU_B : goal.returns-then-bsu-ne-BSU_B
 returns-then-bsu-ne-BSU_B c =
@@ -22,7 +23,11 @@ pub returns : goal.returns
 returns c =
     alike _ _
     (λ t. good_start_lem _ (record {
-      bsu = ⊎_elim (λ w. inr (omega arith)) (λ w. inl (omega arith)) c.if-bsu-ne-BSU_A.branch;
+      bsu =
+          elim c.if-bsu-ne-BSU_A.branch [
+            | then-bsu-ne-BSU_A+else-bsu-ne-BSU_B w ↦ inr (omega arith)
+            | else-bsu-ne-BSU_A w ↦ inl (omega arith)
+          ];
       image = search rules;
       count = search rules;
       items = rw (← c.quad-count.ensures, ← c.items_are_good.ensures) t;

@@ -1,7 +1,6 @@
 -- `valid::text_is_valid` meets its contract.
 -- Assumes nothing.
 use native.Mathlib.Omega.{arith}
-use borrow.Author.Rules.{rules}
 use Rattle.supervisor.proofs.ValidLaws.{le-alike, text-valid, valid-text}
 use Rattle.supervisor.proofs.valid.text_is_valid.Goals as goal
 

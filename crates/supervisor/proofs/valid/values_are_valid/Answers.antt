@@ -1,14 +1,13 @@
 -- `valid::values_are_valid` meets its contract. The loop's invariant: the settings before i are valid.
 -- Assumes nothing.
-use mathlib.Core.Path.{◌≡◌}
-use mathlib.Core.Bool.{true}
-use Prim.Native.Nat.{◌+◌, ◌-◌, ◌≤◌}
+use mathlib.Core.Path.{sym, ◌∙◌}
+use mathlib.Core.Bool.{false≢true}
+use Prim.Native.Nat.{◌+◌}
 use native.Mathlib.Omega.{arith}
 use borrow.Author.Rules.{rules}
-use Rattle.supervisor.specs.Limits.{first_setting, setting_count}
-use Rattle.supervisor.specs.Valid.{valid_values}
+use Rattle.supervisor.specs.Limits.{first_setting}
 use Rattle.supervisor.proofs.OffsetLaws.{offset-within}
-use Rattle.supervisor.proofs.ValidLaws.{untrue, passed, failed, all_none, all_more, all_done, all-each}
+use Rattle.supervisor.proofs.ValidLaws.{untrue, all_none, all_more, all_done, all-each}
 use Rattle.supervisor.proofs.valid.values_are_valid.Goals as goal
 
 pub loop-i-init : goal.loop-i-init
@@ -24,9 +23,8 @@ setting_is_valid-requires c =
 pub returns-then-not-setting_is_valid : goal.returns-then-not-setting_is_valid
 returns-then-not-setting_is_valid c =
     untrue _ (λ e.
-    failed _ _ c.setting_is_valid.ensures c.if-not-setting_is_valid.true
-    (rw (c.setting_offset-at.ensures.0, c.shortest_setting-shortest.ensures, c.longest_setting.ensures.0)
-    (all-each _ _ e _ c.loop-i-test.true)))
+    false≢true (sym c.if-not-setting_is_valid.true ∙ (c.setting_is_valid.ensures ∙ (rw (c.setting_offset-at.ensures.0, c.shortest_setting-shortest.ensures, c.longest_setting.ensures.0)
+    (all-each _ _ e _ c.loop-i-test.true)))))
 
 pub loop-i-preserved : goal.loop-i-preserved
 loop-i-preserved c = (
@@ -34,7 +32,7 @@ loop-i-preserved c = (
   all_more _ _ c.loop-i.invariant.1
       (rw
       (← c.setting_offset-at.ensures.0, ← c.shortest_setting-shortest.ensures, ← c.longest_setting.ensures.0)
-      (passed _ _ c.setting_is_valid.ensures c.if-not-setting_is_valid.false)),
+      (sym c.setting_is_valid.ensures ∙ c.if-not-setting_is_valid.false)),
 )
 
 pub returns : goal.returns

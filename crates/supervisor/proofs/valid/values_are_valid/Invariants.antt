@@ -2,13 +2,9 @@
 -- Assumes nothing.
 use mathlib.Core.Path.{◌≡◌}
 use mathlib.Core.Bool.{true}
-use Prim.Native.Nat.{◌+◌, ◌-◌, ◌≤◌}
-use native.Mathlib.Omega.{arith}
-use borrow.Author.Rules.{rules}
-use Rattle.supervisor.specs.Limits.{first_setting, setting_count}
+use Prim.Native.Nat.{◌-◌, ◌≤◌}
+use Rattle.supervisor.specs.Limits.{setting_count}
 use Rattle.supervisor.specs.Valid.{valid_values}
-use Rattle.supervisor.proofs.OffsetLaws.{offset-within}
-use Rattle.supervisor.proofs.ValidLaws.{untrue, passed, failed, all_none, all_more, all_done, all-each}
 use Rattle.supervisor.proofs.valid.values_are_valid.Given as goal
 
 abbrev pub invariant-loop-i : goal.invariant-loop-i

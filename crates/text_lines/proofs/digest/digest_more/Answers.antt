@@ -1,6 +1,5 @@
 -- `digest::digest_more` meets its contract.
 -- Assumes nothing.
-use borrow.Author.Rules.{rules}
 use Rattle.text_lines.proofs.Laws.{digest-cut}
 use Rattle.text_lines.proofs.digest.digest_more.Goals as goal
 

@@ -1,11 +1,9 @@
 -- `digest::digest_on` meets its contract. The loop keeps what the digest comes to over the bytes that are left.
 -- Assumes nothing.
-use mathlib.Core.Path.{◌≡◌, refl, sym, ◌∙◌}
+use mathlib.Core.Path.{◌≡◌}
 use Prim.Native.Nat.{◌-◌}
-use borrow.Author.Rules.{rules}
 use lib.ListN.{length, drop}
 use Rattle.text_lines.specs.Digest.{digest_on}
-use Rattle.text_lines.proofs.Laws.{digest-next, digest-end}
 use Rattle.text_lines.proofs.digest.digest_on.Given as goal
 
 abbrev pub invariant-loop-i : goal.invariant-loop-i

@@ -1,6 +1,5 @@
 -- `fields::digit` meets its contract, by the byte's position among the digits.
 -- Assumes nothing.
-use borrow.Author.Rules.{rules}
 use borrow.Author.Tests.{le-leb, lt-leb}
 use native.Mathlib.Omega.{arith}
 use Rattle.text_lines.specs.Fields.{digit}

@@ -1,10 +1,7 @@
 -- `fields::field_start` meets its contract. The loop keeps which field is looked for from the offset on.
 -- Assumes nothing.
-use mathlib.Core.Path.{◌≡◌, refl, sym, ◌∙◌}
-use Prim.Native.Nat.{◌-◌, ◌≤◌}
+use mathlib.Core.Path.{refl, sym, ◌∙◌}
 use borrow.Author.Rules.{rules}
-use lib.ListN.{length, drop}
-use Rattle.text_lines.specs.Fields.{field}
 use Rattle.text_lines.proofs.Laws.{field-here, field_next, field_end}
 use Rattle.text_lines.proofs.fields.field_start.Goals as goal
 

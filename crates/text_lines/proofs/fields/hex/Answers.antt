@@ -1,8 +1,7 @@
 -- `fields::hex` meets its contract.
 -- Assumes nothing.
-use borrow.Author.Rules.{rules}
 use Rattle.text_lines.proofs.fields.hex.Goals as goal
 
 pub returns : goal.returns
 returns c =
-    rw (← c.field.ensures.0) c.number.ensures
+    rw (← c.field.ensures.result_value) c.number.ensures

@@ -1,11 +1,9 @@
 -- `fields::number` meets its contract. The loop keeps what the number comes to with the digits that are left.
 -- Assumes nothing.
-use mathlib.Core.Path.{◌≡◌, refl, sym, ◌∙◌}
+use mathlib.Core.Path.{◌≡◌}
 use Prim.Native.Nat.{◌-◌}
-use borrow.Author.Rules.{rules}
 use lib.ListN.{length, drop}
-use Rattle.text_lines.specs.Fields.{digit, with_digits}
-use Rattle.text_lines.proofs.Laws.{digits-one, digits-none, digits-end}
+use Rattle.text_lines.specs.Fields.{with_digits}
 use Rattle.text_lines.proofs.fields.number.Given as goal
 
 abbrev pub invariant-loop-i : goal.invariant-loop-i

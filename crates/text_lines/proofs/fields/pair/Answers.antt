@@ -1,7 +1,6 @@
 -- `fields::pair` meets its contract.
 -- Assumes nothing.
 use mathlib.Core.Path.{sym}
-use borrow.Author.Rules.{rules}
 use native.Mathlib.Omega.{arith}
 use Rattle.text_lines.specs.Fields.{pair_at}
 use Rattle.text_lines.proofs.Laws.{pair-past}

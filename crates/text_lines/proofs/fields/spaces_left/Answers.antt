@@ -1,6 +1,5 @@
 -- `fields::spaces_left` meets its contract, by whether the byte is a space.
 -- Assumes nothing.
-use borrow.Author.Rules.{rules}
 use borrow.Author.Tests.{eq-eqb, ne_eqb}
 use Rattle.text_lines.proofs.fields.spaces_left.Goals as goal
 

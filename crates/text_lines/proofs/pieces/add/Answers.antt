@@ -1,13 +1,10 @@
 -- `pieces::add` meets its contract. The loop's invariant: the first j bytes stand behind the piece.
 -- Assumes nothing.
-use Prim.Native.Nat.{◌-◌, ◌≤◌}
 use mathlib.Core.Path.{◌≡◌, refl, sym}
 use borrow.Author.Rules.{rules}
 use native.Mathlib.Omega.{arith}
-use lib.ListN.{length, take}
-use Rattle.octets.specs.Bytes.{overlay}
 use Rattle.octets.proofs.Overlay.{overlay-none}
-use Rattle.text_lines.specs.Pieces.{values, added_at}
+use Rattle.text_lines.specs.Pieces.{values}
 use Rattle.text_lines.proofs.Laws.{add-not, add-fits, add-more}
 use Rattle.text_lines.proofs.pieces.add.Goals as goal
 
@@ -31,10 +28,13 @@ returns c =
     let more = c.how_many-more in
     let e : l.j ≡ more.result = omega arith in
     rw (l.invariant.2, e, more.ensures) (add-fits a.line.now a.room.now a.n (omega arith))
-    -- TODO loop-j-preserved: no step loop at Else2: let l = c.before.before.before.before.loop in
-    let a = c.before.before.before.before.before.before.before.before.before.before.args in (
+
+pub loop-j-preserved : goal.loop-j-preserved
+loop-j-preserved c =
+    let l = c.loop-j in
+    let a = c.args in (
+      omega arith,
       search rules,
-      search rules,
-      rw (c.added-at.ensures, c.before.part.ensures.0, l.invariant.2)
+      rw (c.added_at-byte.ensures, c.part.ensures.result_value, l.invariant.2)
           (add-more a.line.now a.room.now a.n l.j (search rules)),
     )

@@ -1,14 +1,10 @@
 -- `pieces::add` meets its contract. The loop's invariant: the first j bytes stand behind the piece.
 -- Assumes nothing.
 use Prim.Native.Nat.{◌-◌, ◌≤◌}
-use mathlib.Core.Path.{◌≡◌, refl, sym}
-use borrow.Author.Rules.{rules}
-use native.Mathlib.Omega.{arith}
+use mathlib.Core.Path.{◌≡◌}
 use lib.ListN.{length, take}
 use Rattle.octets.specs.Bytes.{overlay}
-use Rattle.octets.proofs.Overlay.{overlay-none}
 use Rattle.text_lines.specs.Pieces.{values, added_at}
-use Rattle.text_lines.proofs.Laws.{add-not, add-fits, add-more}
 use Rattle.text_lines.proofs.pieces.add.Given as goal
 
 abbrev pub invariant-loop-j : goal.invariant-loop-j

@@ -1,6 +1,5 @@
 -- `pieces::added_at` meets its contract, by the line's key.
 -- Assumes nothing.
-use borrow.Author.Rules.{rules}
 use borrow.Author.Tests.{eq-eqb, ne_eqb}
 use Rattle.text_lines.specs.Pieces.{added_at}
 use Rattle.text_lines.proofs.pieces.added_at.Goals as goal
@@ -8,7 +7,7 @@ use Rattle.text_lines.proofs.pieces.added_at.Goals as goal
 pub returns-then-key-eq43 : goal.returns-then-key-eq43
 unfolding added_at
 returns-then-key-eq43 c =
-    rw (← c.key-key.ensures, eq-eqb _ 43 c.if-key-eq43.true, ← c.behind_key.ensures.0) c.pair.ensures
+    rw (← c.key-key.ensures, eq-eqb _ 43 c.if-key-eq43.true, ← c.behind_key.ensures.result_value) c.pair.ensures
 
 pub returns-then-key-eq42 : goal.returns-then-key-eq42
 unfolding added_at

@@ -1,6 +1,5 @@
 -- `pieces::how_many` meets its contract, by the line's key.
 -- Assumes nothing.
-use borrow.Author.Rules.{rules}
 use borrow.Author.Tests.{eq-eqb, ne_eqb}
 use Rattle.text_lines.specs.Pieces.{adds}
 use Rattle.text_lines.proofs.pieces.how_many.Goals as goal
@@ -8,7 +7,7 @@ use Rattle.text_lines.proofs.pieces.how_many.Goals as goal
 pub returns-then-key-eq43 : goal.returns-then-key-eq43
 unfolding adds
 returns-then-key-eq43 c =
-    rw (← c.key-key.ensures, eq-eqb _ 43 c.if-key-eq43.true, ← c.behind_key.ensures.0)
+    rw (← c.key-key.ensures, eq-eqb _ 43 c.if-key-eq43.true, ← c.behind_key.ensures.result_value)
 
 pub returns-then-key-eq42 : goal.returns-then-key-eq42
 unfolding adds
