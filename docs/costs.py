@@ -21,7 +21,7 @@ SENTENCES = {
     'cost': 'On a Cortex-M4 at `-Os`: {} bytes of code, {} of RAM, {} of stack, and {} instructions for a status request.',
     'main end': "The main processor's end takes {} bytes of RAM.",
     'replay': 'The first time takes about {} minutes of an idle processor.',
-    'crates': '`rt: ok, {} crates proved`',
+    'crates': 'for {} crates in all',
     'gate': 'It takes about {} minutes on two cores, {} of them for `rt ci`.',
     'cross': 'It takes about {} minutes where the crates are proved.',
     'library': 'It takes about {} minutes from nothing, and {} seconds where the crates below it are proved.',
@@ -61,7 +61,7 @@ def stack(page):
 
 def made_of(crate):
     """A crate and those that it builds on, without the toolchain's."""
-    line = one(re.findall(rf'^{crate}:(.*)$', CRATES.read_text(), re.M), f'{crate} in crates.txt')
+    line = one(re.findall(rf'^{crate}(?: staticlib)?:(.*)$', CRATES.read_text(), re.M), f'{crate} in crates.txt')
     return [crate, *(name for name in line.split() if name not in TOOLCHAIN)]
 
 
@@ -85,7 +85,7 @@ def numbers():
         'crates': (len(made_of('replay')),),
         'gate': (minutes(cell(gate, 'Seconds', 'all')), minutes(cell(gate, 'Seconds', '`rt ci`'))),
         'cross': (minutes(cell(gate, 'Seconds', '`tests/cross/run`')),),
-        'library': (minutes(checks(gate, 'oatcastle')), cell(gate, 'Seconds', '`rt staticlib oatcastle`')),
+        'library': (minutes(checks(gate, 'oatcastle')), cell(gate, 'Seconds', '`rt lib`')),
         'release': (cell(gate, 'Seconds', '`release/test`'),),
     }
 

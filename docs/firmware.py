@@ -176,7 +176,7 @@ TOP = '''# On the firmware's processor
 
 ## What is proved, and what is only tested
 
-- **Proved**: the module that `rt staticlib` compiles, on x86-64, with a `usize` of 64 bits. The verdict is for that: every function of the
+- **Proved**: the module that `rt lib` compiles, on x86-64, with a `usize` of 64 bits. The verdict is for that: every function of the
   crates ends, stays in its memory and meets its contract.
 - **Not proved**: anything on another processor. There the same module, as its object on x86-64 shows byte for byte, is compiled by the
   same clang. No proof covers what stands between the verdict and the code:

@@ -1,7 +1,7 @@
 /**
  * @file oatcastle.h
  * Oatcastle: the wire code of a home router's supervisor, as a C library (liboatcastle.a;
- * `rt staticlib oatcastle` makes it).
+ * `rt lib --cpu x86-64` in crates/oatcastle makes it).
  *
  * Plain C99; usable from C++. For x86-64 Linux, and for the processors of cross/ (Cortex-M,
  * riscv32): the header is the same one. oatcastle_parts.h has the lent parts as structs, and each

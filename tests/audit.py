@@ -14,7 +14,7 @@ import time
 
 from common import LIBRARY, ROOT, made
 
-AUDIT = ROOT / 'target' / 'bin' / 'audit'
+AUDIT = ROOT / 'crates' / 'audit' / 'out' / 'audit'
 READER = ROOT / 'target' / 'audit' / 'reader'
 MOST = 65536
 L10 = bytes.fromhex('02 00')

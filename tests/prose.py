@@ -33,7 +33,7 @@ WORDS = ' '.join('''
     passphrase, record, boot failure, panic, alert, retained, pending, owed, line signal, wipe, image, image block, probe list, address
     plan, stride, counter block, requester, outstanding, newest number, answer, ground, resend, anew, recovery, fetch, original, put out,
     handed out, carried out, part, published length, lent, loan, room, outbox, factory store, settings store, registers, valid, sound,
-    view, refusal, promise, contract, meaning, verdict, claim, record of statements, law, hypothesis, walk, quick loop, kit, crate, crate
+    view, refusal, promise, contract, meaning, verdict, claim, record of statements, law, hypothesis, quick loop, kit, crate, crate
     of claims, gate, edit, mutant, model, differential test, trace, yardstick, far end, programs of cases, tap, mark, tick, judged, accused, stale
 '''.split()).split(', ')
 # names in capitals that are no abbreviations: files, documents, constants and variables

@@ -59,7 +59,7 @@ def spoken(item, path):
 
 def unused_imports(path, text):
     """The imports of a file that it does not use: (the whole line, the item or None)."""
-    body = words(without_uses(text))
+    body = words(bounds_apart(without_uses(text)) if path.suffix == '.rt' else without_uses(text))
     for match in USE.finditer(text):
         module, listed = match.group(2), match.group(3)
         if path.suffix == '.rt' and not match.group(1):
@@ -88,6 +88,11 @@ def repaired(text, found):
         new = without(line, [item for other, item in found if other == line])
         text = text.replace(line + '\n', new + '\n' if new else '', 1)
     return text
+
+
+def bounds_apart(code):
+    """Code with its type parameters apart from what bounds them: <R: Read> as R: Read."""
+    return re.sub(r'(?<=\w)[<>]|[<>](?=\w)', ' ', code)
 
 
 def without_uses(text):
