@@ -2,7 +2,7 @@
 // Assumes nothing: a read or a write that fails ends the program with its error.
 #![tactic(auto)]
 
-ghost use Rattle.std.specs.Prelude.{◌≡◌, ℕ, List, [], ◌+◌, ◌-◌, ◌^◌, ◌≤◌, ◌<◌, true, false, IfOk, IfSome, OnOk, length};
+ghost use Rattle.std.specs.Prelude.{◌≡◌, ℕ, List, [], ◌+◌, ◌-◌, ◌^◌, ◌≤◌, ◌<◌, true, false, IfOk, IfSome, OnOk, OnErr, length, take};
 ghost use Rattle.std.specs.Io.KnownBytes.{Appends, IsAtEnd};
 ghost use Rattle.octets.specs.Bytes.{overlay};
 ghost use Rattle.supervisor.specs.Limits.{most_pending};
@@ -157,6 +157,10 @@ fn feed_all<W: Write>(
         (replay_bytes []
         (parts reader.old outbox.old factory.now settings.old registers.old)
         bytes.now).taken) }
+    ensures failed { OnErr result ((n : ℕ) × (parts reader.new outbox.new factory.now settings.new registers.new
+        ≡ (replay_bytes []
+        (parts reader.old outbox.old factory.now settings.old registers.old)
+        (take n bytes.now)).parts)) }
 {
     let mut at = 0;
     while at < bytes.len() {

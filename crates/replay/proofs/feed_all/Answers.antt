@@ -1,11 +1,13 @@
 -- `replay::feed_all` meets its contract.
 -- Assumes nothing.
 use mathlib.Core.Path.{◌≡◌, refl, sym}
+use Prim.Native.Nat.{◌+◌}
 use native.Mathlib.Omega.{arith}
 use borrow.Author.Rules.{rules}
 use lib.ListN.{length, take}
 use lib.Seq.{take_all, length-take-le}
 use Rattle.std.proofs.KnownBytes.{Appends-nil, Appends-trans}
+use Rattle.std.proofs.lemmas.Result.{err_from_is_err_and}
 use Rattle.responder.specs.Replay.{replay_bytes}
 use Rattle.replay.proofs.Feeding.{FedOn, fed-on}
 use Rattle.replay.proofs.feed_all.Goals as goal
@@ -45,8 +47,15 @@ loop-at-preserved g c =
     let f = fed-on _ _ c.feed-fed.result c.loop-at-test.true (omega arith) l.invariant.1 c.feed-fed.ensures in
     (f.within, f.leaves, rw f.adds (Appends-trans _ _ _ _ _ l.invariant.2 c.in_ok-write_all.ensures.bytes))
 
+pub returns-in_err-write_all-clause-failed : goal.returns-in_err-write_all-clause-failed
+returns-in_err-write_all-clause-failed g c =
+    let l = c.loop-at in
+    let f = fed-on _ _ c.feed-fed.result c.loop-at-test.true (omega arith) l.invariant.1 c.feed-fed.ensures in
+    let p = err_from_is_err_and c.from_residual.result c.from_residual.ensures.1 in
+    rw p.1 (l.at + c.feed-fed.result.read, f.leaves)
+
 pub returns : goal.returns
 returns g c =
     let l = c.loop-at in
     let e = take_all l.at c.args.bytes.now (omega arith) in
-    record { left = rw e at l.invariant.1; written = rw e at l.invariant.2 }
+    record { left = rw e at l.invariant.1; written = rw e at l.invariant.2; failed = tt }
