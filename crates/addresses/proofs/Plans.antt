@@ -93,7 +93,8 @@ module _ (base : List ℕ) (stride : ℕ) where
   rows_none = refl
 
   -- one address more
-  pub rows_more : (i : ℕ) → i < 8 → set (first_rows base stride i) i (address_bytes (address base stride i)) ≡ first_rows base stride (i + 1)
+  pub rows_more : (i : ℕ) → i < 8 → set (first_rows base stride i) i (address_bytes (address base stride i))
+      ≡ first_rows base stride (i + 1)
   rows_more i h =
       rw (zero-add, counted (i + 1) i (omega arith)) at
       (set-from (row base i stride) (row base (i + 1) stride) i 8 0 h (λ j q. same_row i (i + 1) j (λ l. omega arith) (λ l. omega arith)))

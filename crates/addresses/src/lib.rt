@@ -19,7 +19,7 @@ const MOST_FILLED: u16 = ROWS as u16;
 const HIGHEST_ADDRESS: u64 = 281474976710655;
 
 // Whether a plan's last counted address is at most the highest.
-#[derive(Drop)]
+#[derive(Clone, Copy)]
 pub enum Planned {
     Fits,
     Passes,

@@ -234,7 +234,8 @@ module _ (e₀ : Ends.Ends) where
   supervisor-clears : (x : State) (l : Log) (m : Supervisor.Made) (waiting : List ℕ) → Cleared l → Cleared (supervisor_logged l x m waiting)
   unfolding supervisor_logged brought
   supervisor-clears x l m waiting c = record {
-    now = rw (c.now, cleared-stays (Received.frames_closed_by l.received (Received.bytes_received_by m))) (or-true (Received.starts_anew m));
+    now = rw (c.now, cleared-stays (Received.frames_closed_by l.received (Received.bytes_received_by m)))
+        (or-true (Received.starts_anew m));
     each = each_append Placed l.handled _ c.each (rw c.now (frames-placed l.asked (image_lent m.call) _ x _ _));
   }
 

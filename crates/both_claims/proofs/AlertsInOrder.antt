@@ -14,7 +14,8 @@ use Rattle.octets.proofs.Conditions.{cond-by}
 use Rattle.octets.proofs.Each.{each_append}
 use Rattle.line.specs.Message.{Message, InRange}
 use Rattle.line.specs.Frame.{frame}
-use Rattle.requester.specs.State.{Request, RecoveryStep, fetch, acknowledge, alert, step_request, outstanding, outstanding_of, request_frame}
+use Rattle.requester.specs.State.{Request, RecoveryStep, fetch, acknowledge, alert, step_request, outstanding, outstanding_of}
+use Rattle.requester.specs.State.{request_frame}
 use Rattle.requester.specs.State.{MainState, main_fresh}
 use Rattle.requester.specs.Limits.{last_number}
 use Rattle.requester.specs.Requester.{stays_out}
@@ -172,7 +173,8 @@ module _ (n : ℕ) (us : List Taken) (most : Each (λ (u : Taken). u.number ≤ 
 -- ---- a call of the main processor's end
 
 -- the alert request outstanding is a recovery's
-in-recovery : (t : Option RecoveryStep) (k : Option Request) → asks_alert k ≡ false → asks_alert (outstanding_of t k) ≡ true → t ≡ some alert
+in-recovery : (t : Option RecoveryStep) (k : Option Request) → asks_alert k ≡ false → asks_alert (outstanding_of t k) ≡ true → t
+    ≡ some alert
 unfolding step_request
 in-recovery none k n e = absurd (false≢true (sym n ∙ e))
 in-recovery (some fetch) k n e = absurd (false≢true e)

@@ -171,7 +171,8 @@ among-more new o = record {
 }
 
 -- one of those taken
-among_one : (n : ℕ) (d : List ℕ) (us : List Taken) → Any (TakenAs n d) us → Among (List ℕ) (with_action d) (with_actions (map taken_data us))
+among_one : (n : ℕ) (d : List ℕ) (us : List Taken) → Any (TakenAs n d) us
+    → Among (List ℕ) (with_action d) (with_actions (map taken_data us))
 unfolding with_actions
 among_one n d [] h = absurd h
 among_one n d (u ∷ us) (inl h) = rw h.1 (among-behind (with_actions (map taken_data us)) (among_same (with_action d)))

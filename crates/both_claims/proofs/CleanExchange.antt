@@ -77,7 +77,8 @@ unfolding ends_after_all
 always-append C e [] us h k = k
 always-append C e (t ∷ ts) us h k = (h.0, always-append C (ends_after e t) ts us h.1 k)
 
-handed-append : (e : Ends.Ends) (ts us : List Ends.EndCall) → all_handed e (ts ++ us) ≡ all_handed e ts ++ all_handed (ends_after_all e ts) us
+handed-append : (e : Ends.Ends) (ts us : List Ends.EndCall) → all_handed e (ts ++ us) ≡ all_handed e ts
+    ++ all_handed (ends_after_all e ts) us
 unfolding all_handed ends_after_all
 handed-append e [] us = refl
 handed-append e (t ∷ ts) us =

@@ -240,7 +240,8 @@ unfolding sets_of
 set-by k o [] h = absurd h
 set-by k o (m ∷ ms) h = by (set_by k m) refl (set-by k o ms) h
   where
-    by : (x : Option (List ℕ)) → set_by k m ≡ x → (Any (λ (v : List ℕ). some v ≡ o) (sets_of k ms) → Any (λ (m : Message). set_by k m ≡ o) ms)
+    by : (x : Option (List ℕ)) → set_by k m ≡ x
+        → (Any (λ (v : List ℕ). some v ≡ o) (sets_of k ms) → Any (λ (m : Message). set_by k m ≡ o) ms)
         → Any (λ (v : List ℕ). some v ≡ o) (listed_if x ++ sets_of k ms) → Any (λ (m : Message). set_by k m ≡ o) (m ∷ ms)
     by none e others h = inr (others h)
     by (some v) e others (inl f) = inl (e ∙ f)

@@ -108,10 +108,12 @@ module _ (p : MainParts) (v : MainPartsValid p) (j : MainLent) (command : ℕ) (
   abbrev asking : MainMade
   asking = record { lent = j; call = Main.request command d room }
 
-  meant-puts : (main_meant_made (main_view p) asking).answer ≡ Main.put count → PutOut (main_view p) q count (main_meant_made (main_view p) asking)
+  meant-puts : (main_meant_made (main_view p) asking).answer ≡ Main.put count
+      → PutOut (main_view p) q count (main_meant_made (main_view p) asking)
   unfolding main_meant_made main_meant
   meant-puts =
-      cond-by (λ (x : MainMeans). x.answer ≡ Main.put count → PutOut (main_view p) q count x) (main_enough (Main.request command d room) j) _
+      cond-by (λ (x : MainMeans). x.answer ≡ Main.put count → PutOut (main_view p) q count x) (main_enough (Main.request command d room) j)
+      _
       _
       (λ _. request-puts (main_view p) q room count) (λ _ e. absurd (never-put _ _ e))
 
@@ -127,21 +129,23 @@ module _ (p : MainParts) (v : MainPartsValid p) (j : MainLent) (command : ℕ) (
   pub asked-calm : (main_made p asking).answer ≡ Main.put count → (main_view (main_made p asking).parts).recovery ≡ none
   asked-calm put = ap (λ (y : MainState). y.recovery) ((MainHistory.one_call p asking v).state ∙ (made-puts put).state)
 
-  module _ (between : (main_view p).received ≡ some []) (byte : command < 256) (bytes : Each Byte d) (stays : stays_out command ≡ true) where
-    pub waiting : (main_made p asking).answer ≡ Main.put count → Waiting (main_made p asking).parts q (take count (main_made p asking).out)
-    waiting put =
-        let k = MainHistory.one_call p asking v in
-        let x = made-puts put in
-        let e = k.state ∙ x.state in
-        let n = next-number put in
-        record {
-          valid = k.valid;
-          waits = ap outstanding e ∙ rw stays;
-          between = ap (λ (y : MainState). y.received) e ∙ between;
-          newest = n ∙ sym (ap (λ (y : MainState). y.newest) e);
-          put = ap (take count) k.out ∙ x.frame ∙ rw n;
-          in_range = rw n (ranged-message _ q x.number (record { command = byte; bytes = bytes; fits = x.fits }));
-        }
+  module _ (between : (main_view p).received ≡ some []) (byte : command < 256) (bytes : Each Byte d) (stays : stays_out command ≡ true)
+    where
+      pub waiting : (main_made p asking).answer ≡ Main.put count
+          → Waiting (main_made p asking).parts q (take count (main_made p asking).out)
+      waiting put =
+          let k = MainHistory.one_call p asking v in
+          let x = made-puts put in
+          let e = k.state ∙ x.state in
+          let n = next-number put in
+          record {
+            valid = k.valid;
+            waits = ap outstanding e ∙ rw stays;
+            between = ap (λ (y : MainState). y.received) e ∙ between;
+            newest = n ∙ sym (ap (λ (y : MainState). y.newest) e);
+            put = ap (take count) k.out ∙ x.frame ∙ rw n;
+            in_range = rw n (ranged-message _ q x.number (record { command = byte; bytes = bytes; fits = x.fits }));
+          }
 
 -- ---- the same frame again
 

@@ -94,7 +94,8 @@ module _ (k : ℕ) (v : List ℕ) (e : Ends.Ends) where
   }
 
   since-calls : (x : Ends.Ends) → Since x → OlderFirst k e x.log → (ts : List Ends.EndCall) → Each EndCallTyped ts → Always GoesOn x ts
-      → Always (NoNewSet k) x ts → Always (OlderFirstAfter k e) x ts → Since (ends_after_all x ts) × OlderFirst k e (ends_after_all x ts).log
+      → Always (NoNewSet k) x ts → Always (OlderFirstAfter k e) x ts → Since (ends_after_all x ts)
+      × OlderFirst k e (ends_after_all x ts).log
   unfolding ends_after_all
   since-calls x s o [] typed g n i = (s, o)
   since-calls x s o (t ∷ ts) typed g n i =
@@ -379,7 +380,8 @@ module _ (k : ℕ) (v : List ℕ) (key : ReadBack k) (s : SetAndBehind) (d : Set
     abbrev P : Message → Type 0
     P = SetsTo k v
 
-    calls : Always (λ y c. LookupsIn (at_answer s) y × KnownOf (at_answer s) (EachSet k P) (sets-fewer k P) (ends_after y c).log) (at_answer s)
+    calls : Always (λ y c. LookupsIn (at_answer s) y × KnownOf (at_answer s) (EachSet k P) (sets-fewer k P) (ends_after y c).log)
+        (at_answer s)
         (hands ∷ s.behind)
     calls =
         known-calls k v (at_set s) key at_set_lem.0 (at_answer s) at-answer.0 d.reply d.result d.waiting is-stored (at_answer s)

@@ -35,7 +35,8 @@ main-starts = refl
 
 supervisor-starts : (Supervisor.made (parts_by (λ i. replicate (published i) 0))
     (record { lent = λ i. first (published i); call = Supervisor.start plain_data })).answer ≡ Supervisor.done
-unfolding Supervisor.made Supervisor.did SupervisorCalls.start_promise SupervisorCalls.long_enough lent_part Valid.good_start number Valid.all
+unfolding Supervisor.made Supervisor.did SupervisorCalls.start_promise SupervisorCalls.long_enough lent_part Valid.good_start number
+    Valid.all
 supervisor-starts = refl
 
 pub some_starts : BothStarts

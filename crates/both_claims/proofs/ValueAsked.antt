@@ -116,7 +116,8 @@ module _ (k : ℕ) (e : Ends.Ends) where
 
     below_none : (m : Message) → Each (Below m) (sets_read_by k e) → Any (λ (y : Message). m.sequence ≤ y.sequence) (sets_read_by k e) → ⊥
     below_none m h a =
-        any-so _ (λ y z. z) (sets_read_by k e) (each-any (Below m) _ (λ (y : Message). ⊥) (λ y l n. omega (arith, l, n)) (sets_read_by k e) h a)
+        any-so _ (λ y z. z) (sets_read_by k e)
+        (each-any (Below m) _ (λ (y : Message). ⊥) (λ y l n. omega (arith, l, n)) (sets_read_by k e) h a)
 
     set_same : (m : Message) → Asked m → (u : List ℕ) → set_by k m ≡ some u → had.edition < last_edition → ⊥ ⊎ (had.value ≡ some u)
     set_same m (q, f) u sets low = by (set-newer k b e now key.key m q u sets low)

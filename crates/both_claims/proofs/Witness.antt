@@ -83,11 +83,14 @@ record Computed (f : Factory) : Type 0 where
   handed : seen_handed (first f) eventful ≡ was_set 5 ∷ was_got 6 ∷ was_got 1 ∷ []
 
 computed : (f : Factory) → Computed f
-unfolding main_meant main_meant_made main_enough enough_part main_fresh Requester.request Requester.send Requester.interrupt request_frame frame
+unfolding main_meant main_meant_made main_enough enough_part main_fresh Requester.request Requester.send Requester.interrupt request_frame
+    frame
     cobs groups message body checksum sums bytes number equal overlay ones Requester.stays_out Requester.receive Requester.main_byte
     more_received Requester.hear Requester.settle Requester.main_moved_to Requester.fetched Requester.serve judge judge_form fields uncobs
-    group_bytes Main.handed_data handed_report_of frames_put_out step_request gathered split non_empty closed_behind seen_all seen_after each_seen
-    seen_answers seen_handed carries_seen past_equal stand_in_turn one_of all_of goes_on_seen no_new_set_seen main_logged supervisor_logged brought
+    group_bytes Main.handed_data handed_report_of frames_put_out step_request gathered split non_empty closed_behind seen_all seen_after
+    each_seen
+    seen_answers seen_handed carries_seen past_equal stand_in_turn one_of all_of goes_on_seen no_new_set_seen main_logged supervisor_logged
+    brought
     handled_by reply_made reply_by is_set_of accepts_restore set_by value_for records_restored Supervisor.meant_made Supervisor.meant
     Supervisor.enough Requests.receive_stream Requests.receive_byte Requests.closed Requests.after_verdict Requests.verdict Requests.tested
     Requests.known Requests.length_allowed Requests.carry_out Requests.effect Requests.key_set Requests.store_value
@@ -218,7 +221,8 @@ module _ (s : BothStarts) where
   after-set = ends_after_all e until_answer
 
   by_answer : main_view after-set.main ≡ at_answer f
-  by_answer = ap (λ (x : Seen). x.main) (seen_all_lem e both until_answer until-typed) ∙ ap (λ (x : Seen). (seen_all x until_answer).main) as_first
+  by_answer = ap (λ (x : Seen). x.main) (seen_all_lem e both until_answer until-typed)
+      ∙ ap (λ (x : Seen). (seen_all x until_answer).main) as_first
 
   no_other : Always (NoNewSet 5) (ends_after e (Ends.main (asks set_list))) (between ++ (Ends.main (reads (frame (was_set 5))) ∷ lookups))
   no_other =
@@ -247,7 +251,8 @@ module _ (s : BothStarts) where
     goes_on = goes_on;
     no_other = no_other;
     older_first = in_order_older_first 5 e before_start goes_on (always-split (SetsInOrderAfter 5) e before_start started_again (sets 5)).0;
-    wire = (always-split (WireUnder _) e (until_answer ++ (Ends.main (reads (frame (was_set 5))) ∷ [])) (lookups ++ started_again) (wire _)).0;
+    wire = (always-split (WireUnder _) e (until_answer ++ (Ends.main (reads (frame (was_set 5))) ∷ [])) (lookups ++ started_again)
+        (wire _)).0;
   }
 
   is-eventful : Eventful s

@@ -23,7 +23,8 @@ use Rattle.requester_claims.specs.CameAs.{bytes_read_by, restarts}
 use Rattle.supervisor.specs.State.{Retained, State}
 use Rattle.supervisor.specs.Local.{entry_of}
 use Rattle.supervisor.specs.Calls as SupervisorCalls
-use Rattle.responder.specs.Requests.{Verdict, failure, good, Reply, version_served, tested, verdict, carry_out, reply_of, alert_data, oldest}
+use Rattle.responder.specs.Requests.{Verdict, failure, good, Reply, version_served, tested, verdict, carry_out, reply_of, alert_data}
+use Rattle.responder.specs.Requests.{oldest}
 use Rattle.supervisor_claims.specs.View.{view}
 use Rattle.supervisor_claims.specs.Sound.{Bytes}
 use Rattle.supervisor_claims.specs.Histories as Supervisor
@@ -253,7 +254,8 @@ pub record BothStarts : Type 0 where
   pub supervisor_lent : Supervisor.Lent
   pub start_data : List ℕ
   pub start_typed : Supervisor.Typed (Supervisor.start start_data)
-  pub supervisor_accepted : (Supervisor.made supervisor_parts (record { lent = supervisor_lent; call = Supervisor.start start_data })).answer
+  pub supervisor_accepted :
+      (Supervisor.made supervisor_parts (record { lent = supervisor_lent; call = Supervisor.start start_data })).answer
       ≡ Supervisor.done
 
 -- both ends then

@@ -135,7 +135,8 @@ pub record RepliedRequest (q : Request) : Type 0 where
   pub ranged : RangedRequest q
   pub listed : known q.command ≡ true
   pub length-right : length_allowed q.command (length q.payload) ≡ true
-  pub replied : (image : List ℕ) (s : State) (n : ℕ) → (r : Message) × (reply_to_request image s (as_message n q) ≡ some r) × (r.version ≡ 1)
+  pub replied : (image : List ℕ) (s : State) (n : ℕ) → (r : Message) × (reply_to_request image s (as_message n q) ≡ some r)
+      × (r.version ≡ 1)
 
 -- a set of key k to the value v
 abbrev pub set_request : ℕ → List ℕ → Request

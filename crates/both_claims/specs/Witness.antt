@@ -164,7 +164,8 @@ eventful_answers =
 -- The lookups follow.
 abbrev pub frames_before : List Frame
 frames_before =
-    put 1 set_list ∷ put 1 set_list ∷ put 2 (step_request fetch) ∷ put 3 (step_request acknowledge) ∷ put 4 (step_request fetch) ∷ put 5 set_list
+    put 1 set_list ∷ put 1 set_list ∷ put 2 (step_request fetch) ∷ put 3 (step_request acknowledge) ∷ put 4 (step_request fetch)
+    ∷ put 5 set_list
     ∷ put 6 get_list ∷ put 7 get_list ∷ []
 
 pub record Eventful (s : BothStarts) : Type 0 where

@@ -309,7 +309,8 @@ behind-set version number x k p s b =
 -- the first holds p, where the bytes v came before, and w in the second
 ended_same : (ts : List CountedTurn) → Each TypedCountedTurn ts → (p : Parts) → Sound p → (v w : List ℕ) → Since (split v).rest (view p)
     → (split v).rest ≡ (split w).rest → BeginsBetween p (turns_of ts)
-    → ended_all (frames_counted v (events_of_run (first_counted_run ts))) ≡ ended_all (frames_counted w (events_of_run (second_counted_run ts)))
+    → ended_all (frames_counted v (events_of_run (first_counted_run ts)))
+    ≡ ended_all (frames_counted w (events_of_run (second_counted_run ts)))
 unfolding events_of_run frames_counted first_counted_run second_counted_run turns_of view split
 ended_same [] t p s v w h e b = refl
 ended_same (CountedPassphrases.same counts c ∷ ts) t p s v w h e b =

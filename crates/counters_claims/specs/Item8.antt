@@ -21,7 +21,8 @@ use Rattle.counters_claims.specs.CountHistory.{AllRefusedEvents, MixedEvent, aft
 abbrev pub nine : ((Ended → Bool) → ℕ) → ℕ
 nine n =
     n is_good + (n is_empty
-    + (n (is_reason 1) + (n (is_reason 2) + (n (is_reason 3) + (n (is_reason 4) + (n (is_reason 5) + (n (is_reason 6) + n (is_reason 7))))))))
+    + (n (is_reason 1) +
+    (n (is_reason 2) + (n (is_reason 3) + (n (is_reason 4) + (n (is_reason 5) + (n (is_reason 6) + n (is_reason 7))))))))
 
 abbrev pub CountersCount : Parts → Lent → List ℕ → Type 0
 CountersCount p l d = (block : Counters) (before : List CountEvent) → AllTyped (calls_of_events before) → (ms : List Made) → AllTyped ms

@@ -15,7 +15,8 @@ use Rattle.octets.proofs.Overlay.{length_run, overlay-inside}
 use Rattle.line.specs.Limits.{checksum_length, shortest_message, longest_message, longest_form}
 use Rattle.line.specs.Checksum.{checksum}
 use Rattle.line.specs.Message.{magic}
-use Rattle.line.specs.Judge.{body_of, checksum_of, magic_of, version_of, sequence_of, command_of, payload_of, fields, wrong_length, judge_form}
+use Rattle.line.specs.Judge.{body_of, checksum_of, magic_of, version_of, sequence_of, command_of, payload_of, fields, wrong_length}
+use Rattle.line.specs.Judge.{judge_form}
 use Rattle.line.specs.Judge.{judge}
 use Rattle.line.specs.Cobs.{uncobs}
 use Rattle.line.specs.Decoding.{measured, plain}

@@ -36,7 +36,8 @@ split-close (zero ∷ w) = rw (split-close w)
 split-close (suc b ∷ w) = rw (split-close w) (ahead-closed (suc b) (split w).closed (split w).rest)
 
 ahead_more : (b : ℕ) (ps : List (List ℕ)) (rest more : List ℕ)
-    → ahead_of_pieces b ps (rest ++ more) ≡ record { closed = (ahead_of_pieces b ps rest).closed; rest = (ahead_of_pieces b ps rest).rest ++ more }
+    → ahead_of_pieces b ps (rest ++ more)
+    ≡ record { closed = (ahead_of_pieces b ps rest).closed; rest = (ahead_of_pieces b ps rest).rest ++ more }
 ahead_more b [] rest more = refl
 ahead_more b (p ∷ ps) rest more = refl
 

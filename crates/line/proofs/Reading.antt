@@ -68,28 +68,29 @@ unfolding read_promise
 reading-refused s p e = rw e
 
 -- n bytes of a piece, as far as its first 00, are kept in the state t
-module _ (s p : List ℕ) (v : valid_reader s ≡ true) {n : ℕ} (e : n ≡ length (ahead p)) {t : List ℕ} (kept : t ≡ pushed_all s (take n p)) where
-  accepted : read_promise s p ≡ read_piece s p
-  unfolding read_promise
-  accepted = rw v
+module _ (s p : List ℕ) (v : valid_reader s ≡ true) {n : ℕ} (e : n ≡ length (ahead p)) {t : List ℕ} (kept : t ≡ pushed_all s (take n p))
+  where
+    accepted : read_promise s p ≡ read_piece s p
+    unfolding read_promise
+    accepted = rw v
 
-  pub reading-ready : Ready t
-  reading-ready =
-      let r = valid-ready s v in
-      let q = ready-pushes (take n p) s r in
-      rw kept (omega arith, q.1)
+    pub reading-ready : Ready t
+    reading-ready =
+        let r = valid-ready s v in
+        let q = ready-pushes (take n p) s r in
+        rw kept (omega arith, q.1)
 
-  pub reading-more : n ≡ length p → outcome_of n more t ≡ read_promise s p
-  reading-more f =
-      let m = read_more s p (sym e ∙ f) in
-      cc (accepted, take-length p)
+    pub reading-more : n ≡ length p → outcome_of n more t ≡ read_promise s p
+    reading-more f =
+        let m = read_more s p (sym e ∙ f) in
+        cc (accepted, take-length p)
 
-  pub reading-stop : (n ≡ length p → ⊥) → {a : ReadReport} {u : List ℕ} → frame_outcome a u ≡ finish t
-      → outcome_of (n + 1) a u ≡ read_promise s p
-  reading-stop f w =
-      let l = ahead-most p in
-      let m = read-stop s p (omega arith) in
-      cc (accepted, add-one n, ap (λ (o : FrameOutcome). o.answer) w, ap (λ (o : FrameOutcome). o.state) w)
+    pub reading-stop : (n ≡ length p → ⊥) → {a : ReadReport} {u : List ℕ} → frame_outcome a u ≡ finish t
+        → outcome_of (n + 1) a u ≡ read_promise s p
+    reading-stop f w =
+        let l = ahead-most p in
+        let m = read-stop s p (omega arith) in
+        cc (accepted, add-one n, ap (λ (o : FrameOutcome). o.answer) w, ap (λ (o : FrameOutcome). o.state) w)
 
 -- ---- a call of `collect`
 
@@ -98,7 +99,8 @@ unfolding collect_promise
 collecting-refused s p e = reading-refused s (ahead_of00 p) e
 
 -- on a state that is read the bytes ahead of the first 00 are kept, and more are wanted
-pub collect-keeps : (s p : List ℕ) → valid_reader s ≡ true → collect_promise s p ≡ outcome_of (length (ahead p)) more (pushed_all s (ahead p))
+pub collect-keeps : (s p : List ℕ) → valid_reader s ≡ true → collect_promise s p
+    ≡ outcome_of (length (ahead p)) more (pushed_all s (ahead p))
 unfolding collect_promise read_promise
 collect-keeps s p v = rw (v, ahead-is p) (sym (read_more s (ahead p) (ahead-again p)))
 

@@ -108,7 +108,8 @@ nonzero-add (suc j) m (zero ∷ xs) h = absurd (omega arith)
 nonzero-add (suc j) m (suc b ∷ xs) h = rw (suc-add j m) (omega (arith, nonzero-add j m xs (omega arith)))
 
 -- one more byte that is not zero
-pub nonzero-one : (k : ℕ) (xs : List ℕ) → length (nonzero k xs) ≡ k → k < length xs → 0 < get_or xs k 0 → length (nonzero (k + 1) xs) ≡ k + 1
+pub nonzero-one : (k : ℕ) (xs : List ℕ) → length (nonzero k xs) ≡ k → k < length xs → 0 < get_or xs k 0 → length (nonzero (k + 1) xs)
+    ≡ k + 1
 nonzero-one k xs h l b =
     let m = nonzero-more 1 (get_or xs k 0) (drop (suc k) xs) (omega arith) b in
     nonzero-add k 1 xs h ∙ rw (drop-cons xs k 0 l) (omega (arith, m, nonzero-most 0 (drop (suc k) xs)))

@@ -11,7 +11,8 @@ ghost use Rattle.line.specs.Judge.{judge_form};
 ghost use Rattle.line.specs.ReaderLayout.{frame_offset, overlong, received_count, with_count};
 ghost use Rattle.line.specs.Reader.{reader_length, valid_reader, read_report};
 ghost use Rattle.line.specs.Reader.{verdict_report, pushed_all, frame_outcome, finish_form, finish, read_outcome, read_promise};
-ghost use Rattle.line.specs.Reader.{collect_outcome, collect_promise, reader_start_outcome, reader_start_promise, tail_report, tail_promise};
+ghost use Rattle.line.specs.Reader.{collect_outcome, collect_promise, reader_start_outcome, reader_start_promise, tail_report};
+ghost use Rattle.line.specs.Reader.{tail_promise};
 ghost use Rattle.line.specs.Reader.{data_report, data_given_promise, data_promise, data_place};
 
 use crate::cobs::Measured;
@@ -44,7 +45,7 @@ pub struct Head {
 }
 
 // What a call of `read` answers; `read_report` in specs/Reader.antt gives document 01's numbers and values.
-#[derive(Drop)]
+#[derive(Clone, Copy)]
 pub enum Answer {
     Refused,
     More,
@@ -57,28 +58,28 @@ pub enum Answer {
 }
 
 // How many bytes of the piece a call of `read` read, and what it says.
-#[derive(Drop)]
+#[derive(Clone, Copy)]
 pub struct Reading {
     pub used: usize,
     pub answer: Answer,
 }
 
 // What a call of `collect` answers.
-#[derive(Drop)]
+#[derive(Clone, Copy)]
 pub enum Collected {
     Refused,
     Bytes(usize),
 }
 
 // What a call of `start` answers.
-#[derive(Drop)]
+#[derive(Clone, Copy)]
 pub enum Started {
     Done,
     Refused,
 }
 
 // What a call of `tail` answers.
-#[derive(Drop)]
+#[derive(Clone, Copy)]
 pub enum Unfinished {
     Refused,
     Bytes(usize),
@@ -86,7 +87,7 @@ pub enum Unfinished {
 }
 
 // What a call of `message_data_given` answers.
-#[derive(Drop)]
+#[derive(Clone, Copy)]
 pub enum Handed {
     Given,
     TooLong,

@@ -14,7 +14,7 @@ const SHORT_MESSAGE: usize = 64;
 const SHORT_DATA: usize = SHORT_MESSAGE - limits::SHORTEST_MESSAGE;
 
 // What a call of `write` answers: how many bytes it wrote, or why it wrote none.
-#[derive(Drop)]
+#[derive(Clone, Copy)]
 pub enum Written {
     Done(usize),
     NoRoom,

@@ -71,7 +71,8 @@ checksum_changes xs ys l b = Iff.trans (differing xs ys 0 0 0 0 l b (omega arith
 -- ---- Changes at few places
 
 -- a change is read as 255, that is none, past the end
-pub changes-at : (xs ys : List ℕ) (i : ℕ) → length xs ≡ length ys → get_or (byte_changes xs ys) i 255 ≡ byte_change (get_or xs i 0) (get_or ys i 0)
+pub changes-at : (xs ys : List ℕ) (i : ℕ) → length xs ≡ length ys → get_or (byte_changes xs ys) i 255
+    ≡ byte_change (get_or xs i 0) (get_or ys i 0)
 unfolding byte_changes
 changes-at [] [] i l = refl
 changes-at [] (y ∷ ys) i l = absurd (omega arith)

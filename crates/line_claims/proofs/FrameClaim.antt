@@ -61,7 +61,8 @@ pieces-reported [] n e = refl
 pieces-reported ([] ∷ ps) n e = rw (← pieces-reported ps n.1 e)
 pieces-reported ((b ∷ bs) ∷ ps) n e =
     first_good (b ∷ bs) (failure_reasons (non_empty ps))
-    (λ v. (b ∷ bs) ++ 0 ∷ with_zeros ps ≡ reported_bytes (verdict_report v ∷ map frame_report ps) (good_of v ++ good_messages (non_empty ps))) e
+    (λ v. (b ∷ bs) ++ 0 ∷ with_zeros ps
+    ≡ reported_bytes (verdict_report v ∷ map frame_report ps) (good_of v ++ good_messages (non_empty ps))) e
     (λ m j f. frame-ahead (b ∷ bs) m (with_zeros ps) n.0 j ∙ ap (λ (w : List ℕ). frame m ++ w) (pieces-reported ps n.1 f))
 
 -- ---- the claims

@@ -13,7 +13,8 @@ use Rattle.octets.specs.Bytes.{Each}
 use Rattle.line.specs.Limits.{longest_form}
 use Rattle.line.specs.Message.{Message, InRange}
 use Rattle.line.specs.Judge.{LineVerdict, failure, good, judge, progress_of, judge_received}
-use Rattle.line.specs.Reader.{verdict_report, reader_length, received_of, valid_reader, reader_fresh, FrameOutcome, finish, ReaderStartOutcome}
+use Rattle.line.specs.Reader.{verdict_report, reader_length, received_of, valid_reader, reader_fresh, FrameOutcome, finish}
+use Rattle.line.specs.Reader.{ReaderStartOutcome}
 use Rattle.line.specs.Reader.{reader_start_promise, tail_of, tail_promise}
 use Rattle.octets.proofs.Conditions.{cond-by, cond_both}
 use Rattle.line.proofs.Judged.{tail_within, more-tail, judged-progress}
@@ -126,7 +127,8 @@ call-follows r (start lent) f =
     let b = front reader_length lent r.state (lent-enough reader_length r.state lent (omega arith) l) in
     let u = b.rest in
     rw b.back
-    (fresh-follows (reader_fresh t ++ u) (valid-append (reader_fresh t) u k ∙ c) (received-append (reader_fresh t) u k ∙ fresh-received t l)))
+    (fresh-follows (reader_fresh t ++ u) (valid-append (reader_fresh t) u k ∙ c) (received-append (reader_fresh t) u k
+    ∙ fresh-received t l)))
     (λ e. f)
 
 calls-follow : (cs : List LineCall) (r : Reader) → Follows r → Follows (after_line_calls r cs)

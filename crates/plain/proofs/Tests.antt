@@ -16,7 +16,8 @@ use Rattle.line.specs.Limits.{header_length, shortest_message, longest_message, 
 use Rattle.line.specs.Checksum.{sums, checksum}
 use Rattle.line.specs.Message.{magic}
 use Rattle.line.specs.Cobs.{uncobs}
-use Rattle.line.specs.Judge.{LineVerdict, failure, good, body_of, checksum_of, magic_of, sequence_of, payload_of, fields, wrong_length, judge_form}
+use Rattle.line.specs.Judge.{LineVerdict, failure, good, body_of, checksum_of, magic_of, sequence_of, payload_of, fields, wrong_length}
+use Rattle.line.specs.Judge.{judge_form}
 use Rattle.line.specs.Judge.{judge}
 use Rattle.plain.specs.Answers.{decode_form, decoded_into}
 use Rattle.plain.specs.Inner.{decoded_report}
@@ -63,45 +64,46 @@ module _ (m : List ℕ) (n : ℕ) (l : n ≤ length m) where
         rw (body_at, run_take 17 (n - 19) m, e)
 
     -- the numbers that are read
-    module _ {a b q : ℕ} (at-end : a ≡ number_at 2 m (n - 2)) (of-body : b ≡ checksum (take (n - 2) m)) (sequence : q ≡ number_at 8 m 8) where
-      sequence-at : sequence_of (take n m) ≡ q
-      sequence-at = number-at 8 8 (omega arith) ∙ sym sequence
+    module _ {a b q : ℕ} (at-end : a ≡ number_at 2 m (n - 2)) (of-body : b ≡ checksum (take (n - 2) m)) (sequence : q ≡ number_at 8 m 8)
+      where
+        sequence-at : sequence_of (take n m) ≡ q
+        sequence-at = number-at 8 8 (omega arith) ∙ sym sequence
 
-      pub tested-checksum : (a ≡ b → ⊥) → failure 2 (some q) ≡ judge_form (some (take n m))
-      unfolding judge_form
-      tested-checksum f = rw (length-right, checksum-at, body_at, ← at-end, ← of-body, ne_eqb a b f, sequence-at)
-
-      module _ {g : ℕ} (same : a ≡ b) (first : g ≡ number_at 4 m 0) where
-        magic-at : magic_of (take n m) ≡ g
-        magic-at = number-at 4 0 (omega arith) ∙ sym first
-
-        pub tested-magic : (g ≡ magic → ⊥) → failure 4 (some q) ≡ judge_form (some (take n m))
+        pub tested-checksum : (a ≡ b → ⊥) → failure 2 (some q) ≡ judge_form (some (take n m))
         unfolding judge_form
-        tested-magic f =
-            rw (length-right, checksum-at, body_at, ← at-end, ← of-body, eq-eqb a b same, magic-at, ne_eqb g magic f, sequence-at)
+        tested-checksum f = rw (length-right, checksum-at, body_at, ← at-end, ← of-body, ne_eqb a b f, sequence-at)
 
-        pub tested-good : {v d : ℕ} → g ≡ magic → v ≡ number_at 4 m 4 → d ≡ number_at 1 m 16
-            → good (record { version = v; sequence = q; command = d; payload = run header_length (n - shortest_message) m })
-            ≡ judge_form (some (take n m))
-        unfolding judge_form fields
-        tested-good f version command =
-            let v = number-at 4 4 (omega arith) ∙ sym version in
-            let d = number-at 1 16 (omega arith) ∙ sym command in
-            rw (
-              length-right,
-              checksum-at,
-              body_at,
-              ← at-end,
-              ← of-body,
-              eq-eqb a b same,
-              magic-at,
-              eq-eqb g magic f,
-              sequence-at,
-              v,
-              d,
-              ← payload-at,
-              body_at,
-            )
+        module _ {g : ℕ} (same : a ≡ b) (first : g ≡ number_at 4 m 0) where
+          magic-at : magic_of (take n m) ≡ g
+          magic-at = number-at 4 0 (omega arith) ∙ sym first
+
+          pub tested-magic : (g ≡ magic → ⊥) → failure 4 (some q) ≡ judge_form (some (take n m))
+          unfolding judge_form
+          tested-magic f =
+              rw (length-right, checksum-at, body_at, ← at-end, ← of-body, eq-eqb a b same, magic-at, ne_eqb g magic f, sequence-at)
+
+          pub tested-good : {v d : ℕ} → g ≡ magic → v ≡ number_at 4 m 4 → d ≡ number_at 1 m 16
+              → good (record { version = v; sequence = q; command = d; payload = run header_length (n - shortest_message) m })
+              ≡ judge_form (some (take n m))
+          unfolding judge_form fields
+          tested-good f version command =
+              let v = number-at 4 4 (omega arith) ∙ sym version in
+              let d = number-at 1 16 (omega arith) ∙ sym command in
+              rw (
+                length-right,
+                checksum-at,
+                body_at,
+                ← at-end,
+                ← of-body,
+                eq-eqb a b same,
+                magic-at,
+                eq-eqb g magic f,
+                sequence-at,
+                v,
+                d,
+                ← payload-at,
+                body_at,
+              )
 
 -- ---- a whole frame
 

@@ -24,14 +24,14 @@ const SHORTEST_MESSAGE: usize = 19;
 const MAGIC: u32 = 0x01DE19CC;
 
 // What begins at an offset of a capture: a frame with so many bytes before its 00, or the unfinished tail of so many bytes.
-#[derive(Drop)]
+#[derive(Clone, Copy)]
 pub enum Piece {
     Frame(usize),
     Tail(usize),
 }
 
 // A message; its data stand in the array from offset 17 on.
-#[derive(Drop)]
+#[derive(Clone, Copy)]
 pub struct Head {
     pub version: u32,
     pub sequence: u64,
@@ -40,7 +40,7 @@ pub struct Head {
 }
 
 // A message, or the line layer's reason 1, 3, 2 or 4; the last two with the message's sequence.
-#[derive(Drop)]
+#[derive(Clone, Copy)]
 pub enum Answer {
     Message(Head),
     BadForm,

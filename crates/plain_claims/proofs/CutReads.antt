@@ -8,7 +8,8 @@ use lib.Dec.{eqb-suc-zero}
 use lib.ListN.{length, take}
 use Rattle.line.specs.Reader.{reader_length, valid_reader, pushed, one_byte_later, read_piece, read_promise}
 use Rattle.line_claims.specs.Loans.{Loan, enough_part}
-use Rattle.line_claims.specs.Calls.{LineRead, LineCall, read, lent_state, Reader, after_line_call, after_line_calls, reader_on, fresh_reader}
+use Rattle.line_claims.specs.Calls.{LineRead, LineCall, read, lent_state, Reader, after_line_call, after_line_calls, reader_on}
+use Rattle.line_claims.specs.Calls.{fresh_reader}
 use Rattle.line_claims.proofs.Streams.{bytes_read, stream-read, call-stream}
 use Rattle.line_claims.proofs.Refusals.{never_12, refused_exactly}
 use Rattle.plain_claims.specs.Agreement.{joined_pieces, behind_each, calls_for}

@@ -12,6 +12,7 @@ use Rattle.plain_claims.specs.Samples.{plain_samples}
 use Rattle.plain_claims.specs.Item13.{PlainSamplesHold}
 
 pub samples_hold : PlainSamplesHold
-unfolding plain_samples status_request listing split listed_frames listed_frame number equal sums checksum group_bytes uncobs fields judge_form
+unfolding plain_samples status_request listing split listed_frames listed_frame number equal sums checksum group_bytes uncobs fields
+    judge_form
     judge
 samples_hold = refl

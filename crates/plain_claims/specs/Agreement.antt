@@ -3,7 +3,8 @@
 use Rattle.std.specs.Prelude.{◌≡◌, cond, List, [], ◌∷◌, ◌++◌, ℕ, zero, suc, ltb}
 use Rattle.line.specs.Limits.{longest_form}
 use Rattle.line.specs.Judge.{LineVerdict}
-use Rattle.line.specs.Reader.{ReadReport, refused, more, empty, message, failed, verdict_report, TailReport, unfinished, longer, tail_promise}
+use Rattle.line.specs.Reader.{ReadReport, refused, more, empty, message, failed, verdict_report, TailReport, unfinished, longer}
+use Rattle.line.specs.Reader.{tail_promise}
 use Rattle.line_claims.specs.Loans.{Loan}
 use Rattle.line_claims.specs.Calls.{LineCall, read, Reader, good_of, reason_of}
 use Rattle.plain.specs.Listing.{ListedFrame, Listing}

@@ -21,7 +21,8 @@ one_more : (i : ℕ) → suc i ≡ i + 1
 one_more i = sym (add-suc i zero ∙ ap suc (add-zero i))
 
 pub changes-more : (is rs : List ℕ) (i : ℕ) → i < length is → i < length rs
-    → probe_changes (drop i is) (drop i rs) ≡ probe_change (get_or is i 0) (get_or rs i 0) ∷ probe_changes (drop (i + 1) is) (drop (i + 1) rs)
+    → probe_changes (drop i is) (drop i rs)
+    ≡ probe_change (get_or is i 0) (get_or rs i 0) ∷ probe_changes (drop (i + 1) is) (drop (i + 1) rs)
 unfolding probe_changes
 changes-more is rs i h k =
     ap (λ (us : List ℕ). probe_changes us (drop i rs)) (drop-cons is i 0 h)

@@ -1,6 +1,6 @@
 -- The laws of the test of all changes: what it comes to from an offset on, and what one bad change makes of it.
 -- Assumes nothing.
-use mathlib.Core.Path.{◌≡◌, sym, ◌∙◌, ap}
+use mathlib.Core.Path.{◌≡◌, ◌∙◌, ap}
 use mathlib.Core.Bool.{Bool, true, false, ◌&&◌}
 use mathlib.Core.List.{List}
 use Prim.Native.Nat.{ℕ, ◌+◌, ◌≤◌, ◌<◌}
@@ -39,7 +39,8 @@ module _ (n : ℕ) (is rs : List ℕ) where
     unfolding all_good
     here h k = ap (all_good n) (changes-more is rs i h k)
 
-    pub good-here : i < length is → i < length rs → good_change n (probe_change (get_or is i 0) (get_or rs i 0)) ≡ true → rest i ≡ rest (i + 1)
+    pub good-here : i < length is → i < length rs → good_change n (probe_change (get_or is i 0) (get_or rs i 0)) ≡ true → rest i
+        ≡ rest (i + 1)
     good-here h k e = here h k ∙ ap (λ (b : Bool). b && rest (i + 1)) e
 
     pub bad-here : i < length is → i < length rs → good_change n (probe_change (get_or is i 0) (get_or rs i 0)) ≡ false → rest i ≡ false

@@ -7,14 +7,14 @@ ghost use Rattle.probes.specs.Probes.{probe_change, good_change, good, result_se
 
 // A part's address on the bus, and the result of its probe.
 #[repr(C)]
-#[derive(Drop)]
+#[derive(Clone, Copy)]
 pub struct Probe {
     pub address: u8,
     pub result: u8,
 }
 
 // Whether the changes were made.
-#[derive(Drop)]
+#[derive(Clone, Copy)]
 pub enum Updated {
     Done,
     Refused,

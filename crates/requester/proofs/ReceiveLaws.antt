@@ -34,7 +34,8 @@ pub receive-refused : (p : MainParts) (piece : List ℕ) → main_valid_parts p 
 unfolding main_receive_promise
 receive-refused p piece e = rw e
 
-pub receive-received : (p : MainParts) (piece : List ℕ) {x : MainReceiveOutcome} → main_valid_parts p ≡ true → x ≡ main_receive_valid p piece
+pub receive-received : (p : MainParts) (piece : List ℕ) {x : MainReceiveOutcome} → main_valid_parts p ≡ true → x
+    ≡ main_receive_valid p piece
     → x ≡ main_receive_promise p piece
 unfolding main_receive_promise
 receive-received p piece v e = rw v e

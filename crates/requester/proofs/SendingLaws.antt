@@ -135,7 +135,8 @@ module _ (r out : List ℕ) (v : RequesterValid r) {n t : ℕ} (e : n ≡ Layout
     {o : Writer.WriteOutcome} where
   pub kept-written : {command k : ℕ} → t ≡ 0 → k ≡ Layout.kept_length r → command ≡ Layout.kept_command r
       → o ≡ Writer.write_promise
-      (Writer.message_of_parts 1 n command (take (Layout.kept_data_offset + k - Layout.kept_data_offset) (drop Layout.kept_data_offset r)) [])
+      (Writer.message_of_parts 1 n command (take (Layout.kept_data_offset + k - Layout.kept_data_offset) (drop Layout.kept_data_offset r))
+      [])
       out
       → o ≡ Writer.write_into (request_frame (Layout.newest_number r) (Layout.out_request r)) out
   unfolding Layout.out_request Layout.kept_request Layout.step_at

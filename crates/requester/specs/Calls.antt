@@ -1,6 +1,7 @@
 -- What each call answers and leaves in the bytes that it is lent (document 02, item 2).
 -- Assumes nothing: these are definitions.
-use Rattle.std.specs.Prelude.{Bool, true, false, cond, ◌&&◌, List, [], ◌∷◌, ◌++◌, ℕ, suc, ◌-◌, leb, ltb, eqb, length, take, replicate, ◌≡◌, ◌≤◌}
+use Rattle.std.specs.Prelude.{Bool, true, false, cond, ◌&&◌, List, [], ◌∷◌, ◌++◌, ℕ, suc, ◌-◌, leb, ltb, eqb, length, take, replicate, ◌≡◌}
+use Rattle.std.specs.Prelude.{◌≤◌}
 use Rattle.std.proofs.Math.Option.{Option, none, some}
 use Rattle.octets.specs.Bytes.{bytes, overlay}
 use Rattle.line.specs.Limits.{longest_data, longest_form}
@@ -62,7 +63,8 @@ main_start_outcome r p = record { refusal = main_start_report r; parts = p }
 
 -- the room alone is tested
 unfoldable pub main_start_promise : MainParts → MainStartOutcome
-main_start_promise p = cond (main_long_enough p) (record { refusal = none; parts = main_fresh_parts p }) (record { refusal = some 12; parts = p })
+main_start_promise p =
+    cond (main_long_enough p) (record { refusal = none; parts = main_fresh_parts p }) (record { refusal = some 12; parts = p })
 
 -- ---- The part's first fields: newest number, recovery, whether the frame is to go out, whether a request is kept
 

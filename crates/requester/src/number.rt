@@ -6,7 +6,7 @@ ghost use Rattle.requester.specs.Number.{main_reply_number};
 
 use line::numbers;
 
-#[derive(Drop)]
+#[derive(Clone, Copy)]
 pub struct RequestNumber(pub u64);
 
 #[derive(Clone, Copy)]

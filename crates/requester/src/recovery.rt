@@ -5,7 +5,7 @@ ghost use Rattle.requester.specs.Calls.{interrupt_report, interrupt_outcome, int
 
 use crate::{layout, progress, valid};
 
-#[derive(Drop)]
+#[derive(Clone, Copy)]
 pub enum Interrupted {
     Done,
     Refused,

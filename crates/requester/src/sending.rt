@@ -14,7 +14,7 @@ use line::writer::Written;
 use line::{limits, numbers};
 
 // What a call of `request` answers: how many bytes it put out, or why none.
-#[derive(Drop)]
+#[derive(Clone, Copy)]
 pub enum Requested {
     Refused,
     TooLong,
@@ -25,7 +25,7 @@ pub enum Requested {
 }
 
 // What a call of `send` answers: how many bytes it put out, 0 where nothing is to go out, or why none.
-#[derive(Drop)]
+#[derive(Clone, Copy)]
 pub enum Sent {
     Refused,
     NoRoom,

@@ -5,7 +5,7 @@ ghost use Rattle.requester.specs.Calls.{main_parts, main_start_outcome, main_sta
 
 use crate::layout;
 
-#[derive(Drop)]
+#[derive(Clone, Copy)]
 pub enum Started {
     Done,
     Refused,

@@ -8,7 +8,7 @@ ghost use Rattle.requester.specs.Calls.{stage_report, standing_report, part_stan
 use crate::{layout, progress, sending, valid};
 
 // Nothing is outstanding; the caller's request is; or a recovery's 0x08, 0x09 or 0x0a.
-#[derive(Drop)]
+#[derive(Clone, Copy)]
 pub enum Stage {
     Idle,
     Waiting,
@@ -19,7 +19,7 @@ pub enum Stage {
 
 // Command and number of the one outstanding, 0 where there is none; whether its frame is to go out by `send`.
 // `original`: in a recovery, whether a request that it cut off goes out anew behind it.
-#[derive(Drop)]
+#[derive(Clone, Copy)]
 pub struct Standing {
     pub stage: Stage,
     pub command: u8,
@@ -29,7 +29,7 @@ pub struct Standing {
 }
 
 // What a call of `state` answers.
-#[derive(Drop)]
+#[derive(Clone, Copy)]
 pub enum Stated {
     Refused,
     Done(Standing),

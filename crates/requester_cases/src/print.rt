@@ -1,5 +1,5 @@
 // Prints the answers of the main processor's end, each with one space in front; refusals go by the numbers of documents 01 and 02.
-// Assumes nothing: output that cannot be written is lost.
+// Assumes nothing: a write that fails ends the call with its error.
 use line::reader::Head;
 use requester::outcome::{Handed, Status};
 use requester::receive::Received;
@@ -7,6 +7,7 @@ use requester::recovery::Interrupted;
 use requester::sending::{Requested, Sent};
 use requester::start::Started;
 use requester::state::{Stage, Standing, Stated};
+use std::io;
 use text_lines::streams;
 
 const NO_ROOM: u64 = 8;
@@ -19,46 +20,46 @@ const NO_NUMBER: u64 = 14;
 
 const OUTSTANDING: u64 = 17;
 
-fn done() {
-    streams::word(b" done");
+fn done(rt: &impl Print) -> io::Result<()> {
+    streams::word(rt, b" done")
 }
 
-fn put(n: usize) {
-    streams::word(b" put");
-    streams::number(n as u64);
+fn put(rt: &impl Print, n: usize) -> io::Result<()> {
+    streams::word(rt, b" put")?;
+    streams::number(rt, n as u64)
 }
 
-pub(crate) fn starting(a: Started) {
+pub(crate) fn starting(rt: &impl Print, a: Started) -> io::Result<()> {
     match a {
-        Started::Done => done(),
-        Started::Refused => streams::refused(REFUSED),
+        Started::Done => done(rt),
+        Started::Refused => streams::refused(rt, REFUSED),
     }
 }
 
-pub(crate) fn requesting(a: Requested) {
+pub(crate) fn requesting(rt: &impl Print, a: Requested) -> io::Result<()> {
     match a {
-        Requested::Refused => streams::refused(REFUSED),
-        Requested::TooLong => streams::refused(TOO_LONG),
-        Requested::Outstanding => streams::refused(OUTSTANDING),
-        Requested::NoNumber => streams::refused(NO_NUMBER),
-        Requested::NoRoom => streams::refused(NO_ROOM),
-        Requested::Done(n) => put(n),
+        Requested::Refused => streams::refused(rt, REFUSED),
+        Requested::TooLong => streams::refused(rt, TOO_LONG),
+        Requested::Outstanding => streams::refused(rt, OUTSTANDING),
+        Requested::NoNumber => streams::refused(rt, NO_NUMBER),
+        Requested::NoRoom => streams::refused(rt, NO_ROOM),
+        Requested::Done(n) => put(rt, n),
     }
 }
 
-pub(crate) fn sending(a: Sent) {
+pub(crate) fn sending(rt: &impl Print, a: Sent) -> io::Result<()> {
     match a {
-        Sent::Refused => streams::refused(REFUSED),
-        Sent::NoRoom => streams::refused(NO_ROOM),
-        Sent::Done(n) => put(n),
+        Sent::Refused => streams::refused(rt, REFUSED),
+        Sent::NoRoom => streams::refused(rt, NO_ROOM),
+        Sent::Done(n) => put(rt, n),
     }
 }
 
-pub(crate) fn interrupting(a: Interrupted) {
+pub(crate) fn interrupting(rt: &impl Print, a: Interrupted) -> io::Result<()> {
     match a {
-        Interrupted::Done => done(),
-        Interrupted::Refused => streams::refused(REFUSED),
-        Interrupted::NoNumber => streams::refused(NO_NUMBER),
+        Interrupted::Done => done(rt),
+        Interrupted::Refused => streams::refused(rt, REFUSED),
+        Interrupted::NoNumber => streams::refused(rt, NO_NUMBER),
     }
 }
 
@@ -82,70 +83,71 @@ fn is_nothing(handed: Handed) -> bool {
 }
 
 // What a call of receive answered.
-pub(crate) fn receiving(r: Received, reader: &[u8]) {
+pub(crate) fn receiving(rt: &impl Print, r: Received, reader: &[u8]) -> io::Result<()> {
     let handed = r.handed;
-    streams::number(r.used as u64);
-    handing(handed, reader);
-    word_if(r.ended, b" ended");
-    word_if(r.unsent, b" out");
+    streams::number(rt, r.used as u64)?;
+    handing(rt, handed, reader)?;
+    word_if(rt, r.ended, b" ended")?;
+    word_if(rt, r.unsent, b" out")
 }
 
-fn handing(handed: Handed, reader: &[u8]) {
+fn handing(rt: &impl Print, handed: Handed, reader: &[u8]) -> io::Result<()> {
     match handed {
-        Handed::Refused => streams::refused(REFUSED),
-        Handed::Nothing => streams::word(b" nothing"),
-        Handed::Answer(h) => message(b" answer", h, reader),
-        Handed::Status(s) => status(s),
-        Handed::Alert(h) => message(b" alert", h, reader),
+        Handed::Refused => streams::refused(rt, REFUSED),
+        Handed::Nothing => streams::word(rt, b" nothing"),
+        Handed::Answer(h) => message(rt, b" answer", h, reader),
+        Handed::Status(s) => status(rt, s),
+        Handed::Alert(h) => message(rt, b" alert", h, reader),
     }
 }
 
 // A message's version, sequence, command, length and the digest of its data.
-fn message(kind: &[u8], h: Head, reader: &[u8]) {
-    streams::word(kind);
-    streams::number(h.version as u64);
-    streams::hex(h.sequence, 16);
-    streams::hex(h.command as u64, 2);
-    streams::number(h.length as u64);
-    streams::digest(line::reader::message_data(reader, h.length));
+fn message(rt: &impl Print, kind: &[u8], h: Head, reader: &[u8]) -> io::Result<()> {
+    streams::word(rt, kind)?;
+    streams::number(rt, h.version as u64)?;
+    streams::hex(rt, h.sequence, 16)?;
+    streams::hex(rt, h.command as u64, 2)?;
+    streams::number(rt, h.length as u64)?;
+    streams::digest(rt, line::reader::message_data(reader, h.length))
 }
 
-fn status(s: Status) {
-    streams::word(b" status");
-    streams::hex(s.status, 16);
-    streams::hex(s.options, 16);
-    streams::number(s.set_bits as u64);
+fn status(rt: &impl Print, s: Status) -> io::Result<()> {
+    streams::word(rt, b" status")?;
+    streams::hex(rt, s.status, 16)?;
+    streams::hex(rt, s.options, 16)?;
+    streams::number(rt, s.set_bits as u64)
 }
 
-pub(crate) fn stating(a: Stated) {
+pub(crate) fn stating(rt: &impl Print, a: Stated) -> io::Result<()> {
     match a {
-        Stated::Refused => streams::refused(REFUSED),
-        Stated::Done(s) => standing(s),
+        Stated::Refused => streams::refused(rt, REFUSED),
+        Stated::Done(s) => standing(rt, s),
     }
 }
 
 // What is outstanding: its stage, command and number, and two flags.
-fn standing(s: Standing) {
+fn standing(rt: &impl Print, s: Standing) -> io::Result<()> {
     let kind = s.stage;
-    stage(kind);
-    streams::hex(s.command as u64, 2);
-    streams::hex(s.number, 16);
-    word_if(s.unsent, b" out");
-    word_if(s.original, b" original");
+    stage(rt, kind)?;
+    streams::hex(rt, s.command as u64, 2)?;
+    streams::hex(rt, s.number, 16)?;
+    word_if(rt, s.unsent, b" out")?;
+    word_if(rt, s.original, b" original")
 }
 
-fn stage(kind: Stage) {
+fn stage(rt: &impl Print, kind: Stage) -> io::Result<()> {
     match kind {
-        Stage::Idle => streams::word(b" idle"),
-        Stage::Waiting => streams::word(b" waiting"),
-        Stage::Fetch => streams::word(b" fetch"),
-        Stage::Acknowledge => streams::word(b" acknowledge"),
-        Stage::Alert => streams::word(b" alert"),
+        Stage::Idle => streams::word(rt, b" idle"),
+        Stage::Waiting => streams::word(rt, b" waiting"),
+        Stage::Fetch => streams::word(rt, b" fetch"),
+        Stage::Acknowledge => streams::word(rt, b" acknowledge"),
+        Stage::Alert => streams::word(rt, b" alert"),
     }
 }
 
-fn word_if(is_so: bool, word: &[u8]) {
+fn word_if(rt: &impl Print, is_so: bool, word: &[u8]) -> io::Result<()> {
     if is_so {
-        streams::word(word);
+        return streams::word(rt, word);
     }
+    Ok(())
 }

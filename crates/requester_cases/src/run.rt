@@ -2,6 +2,7 @@
 // Assumes nothing: a command whose counts do not fit does nothing.
 use crate::print;
 use requester::{layout, receive, recovery, sending, start, state};
+use std::io;
 use text_lines::digest::digest_on;
 use text_lines::{fields, pieces, streams};
 
@@ -49,57 +50,57 @@ pub(crate) fn fresh() -> Case {
 }
 
 // One line: a letter is a call. Of a cut the case keeps nothing.
-pub(crate) fn command(line: &[u8], now: Case) -> Case {
+pub(crate) fn command(rt: &impl Print, line: &[u8], now: Case) -> io::Result<Case> {
     let key = fields::key(line);
     if b'a' <= key {
-        return call(line, now);
+        return call(rt, line, now);
     }
     if key == b'=' {
-        return begin(line);
+        return begin(rt, line);
     }
     if key == b'/' {
-        call(line, now);
-        return now;
+        call(rt, line, now)?;
+        return Ok(now);
     }
     if key == b'!' {
-        return store(line, now);
+        return Ok(store(line, now));
     }
-    set(line, key, now)
+    set(rt, line, key, now)
 }
 
 // A fresh case, with its name, started.
-fn begin(line: &[u8]) -> Case {
-    streams::name(line);
+fn begin(rt: &impl Print, line: &[u8]) -> io::Result<Case> {
+    streams::name(rt, line)?;
     let mut next = fresh();
     let mut reader = next.reader;
     let mut requester = next.requester;
     start::start(&mut reader, &mut requester);
     next.reader = reader;
     next.requester = requester;
-    next
+    Ok(next)
 }
 
 // More of the piece, how many bytes of each part are lent, the digest of both parts, or the end of the case's line.
-fn set(line: &[u8], key: u8, now: Case) -> Case {
+fn set(rt: &impl Print, line: &[u8], key: u8, now: Case) -> io::Result<Case> {
     let mut next = now;
     if key == b'#' {
         next.reader_lent = fields::count(line, 1);
         next.requester_lent = fields::count(line, 2);
-        return next;
+        return Ok(next);
     }
     if key == b':' {
         next.noted = parts_digest(now);
-        return next;
+        return Ok(next);
     }
     if key == b'?' {
-        same(parts_digest(now) == now.noted);
-        return next;
+        same(rt, parts_digest(now) == now.noted)?;
+        return Ok(next);
     }
     if key == b'.' {
-        streams::word(b"\n");
-        return next;
+        streams::word(rt, b"\n")?;
+        return Ok(next);
     }
-    longer(line, now)
+    Ok(longer(line, now))
 }
 
 fn longer(line: &[u8], now: Case) -> Case {
@@ -115,11 +116,11 @@ fn parts_digest(now: Case) -> u32 {
     digest_on(digest_on(0, &now.reader), &now.requester)
 }
 
-fn same(is_same: bool) {
+fn same(rt: &impl Print, is_same: bool) -> io::Result<()> {
     if is_same {
-        streams::word(b" same");
+        streams::word(rt, b" same")
     } else {
-        streams::word(b" changed");
+        streams::word(rt, b" changed")
     }
 }
 
@@ -148,122 +149,172 @@ fn first<'a>(s: &'a mut [u8], n: usize) -> &'a mut [u8] {
 }
 
 // A call on what is lent of each part; the piece is used up.
-fn call(line: &[u8], now: Case) -> Case {
+fn call(rt: &impl Print, line: &[u8], now: Case) -> io::Result<Case> {
     let mut next = now;
     let mut reader = now.reader;
     let mut requester = now.requester;
     let piece = now.piece;
     let mut out = now.out;
     act(
+        rt,
         line,
         octets::part(&piece, 0, now.piece_count),
         first(&mut reader, now.reader_lent),
         first(&mut requester, now.requester_lent),
         &mut out,
-    );
+    )?;
     next.reader = reader;
     next.requester = requester;
     next.out = out;
     next.piece_count = 0;
-    next
+    Ok(next)
 }
 
 // The piece cut in two, and what goes out then, on a line of its own.
 fn receive_and_send(
+    rt: &impl Print,
     line: &[u8],
     piece: &[u8],
     reader: &mut [u8],
     requester: &mut [u8],
     out: &mut [u8],
-) {
-    streams::word(b"\ncut");
-    streams::number(fields::decimal(line, 1));
-    receive_cut(line, piece, reader, requester);
-    send(requester, out, OUT_ROOM);
+) -> io::Result<()> {
+    streams::word(rt, b"\ncut")?;
+    streams::number(rt, fields::decimal(line, 1))?;
+    receive_cut(rt, line, piece, reader, requester)?;
+    send(rt, requester, out, OUT_ROOM)
 }
 
 // By the line's key.
-fn act(line: &[u8], piece: &[u8], reader: &mut [u8], requester: &mut [u8], out: &mut [u8]) {
+fn act(
+    rt: &impl Print,
+    line: &[u8],
+    piece: &[u8],
+    reader: &mut [u8],
+    requester: &mut [u8],
+    out: &mut [u8],
+) -> io::Result<()> {
     let key = fields::key(line);
     if key == b'/' {
-        return receive_and_send(line, piece, reader, requester, out);
+        return receive_and_send(rt, line, piece, reader, requester, out);
     }
     if key == b'q' {
-        return request(line, piece, requester, out);
+        return request(rt, line, piece, requester, out);
     }
     if key == b's' {
-        return send(requester, out, fields::count(line, 1));
+        return send(rt, requester, out, fields::count(line, 1));
     }
-    listen(line, key, piece, reader, requester);
+    listen(rt, line, key, piece, reader, requester)
 }
 
 // A request with the piece as its data.
-fn request(line: &[u8], piece: &[u8], requester: &mut [u8], out: &mut [u8]) {
+fn request(
+    rt: &impl Print,
+    line: &[u8],
+    piece: &[u8],
+    requester: &mut [u8],
+    out: &mut [u8],
+) -> io::Result<()> {
     let command = fields::hex_u8(line, 1);
     let room = fields::count(line, 2);
-    print::requesting(sending::request(requester, command, piece, first(out, room)));
-    streams::digest(out);
+    print::requesting(
+        rt,
+        sending::request(requester, command, piece, first(out, room)),
+    )?;
+    streams::digest(rt, out)
 }
 
 // The frame that is to go out, to the first bytes of an output.
-fn send(requester: &mut [u8], out: &mut [u8], room: usize) {
-    print::sending(sending::send(requester, first(out, room)));
-    streams::digest(out);
+fn send(rt: &impl Print, requester: &mut [u8], out: &mut [u8], room: usize) -> io::Result<()> {
+    print::sending(rt, sending::send(requester, first(out, room)))?;
+    streams::digest(rt, out)
 }
 
 // The calls that put nothing out.
-fn listen(line: &[u8], key: u8, piece: &[u8], reader: &mut [u8], requester: &mut [u8]) {
+fn listen(
+    rt: &impl Print,
+    line: &[u8],
+    key: u8,
+    piece: &[u8],
+    reader: &mut [u8],
+    requester: &mut [u8],
+) -> io::Result<()> {
     if key == b'i' {
-        return print::interrupting(recovery::interrupt(requester));
+        return print::interrupting(rt, recovery::interrupt(requester));
     }
     if key == b'x' {
-        return print::starting(start::start(reader, requester));
+        return print::starting(rt, start::start(reader, requester));
     }
     if key == b'c' {
-        return receive_cut(line, piece, reader, requester);
+        return receive_cut(rt, line, piece, reader, requester);
     }
     if key == b't' {
-        return print::stating(state::state(requester));
+        return print::stating(rt, state::state(requester));
     }
-    receive_by(piece, fields::count(line, 1), reader, requester);
+    receive_by(rt, piece, fields::count(line, 1), reader, requester)
 }
 
 // The piece's first bytes, then the rest.
-fn receive_cut(line: &[u8], piece: &[u8], reader: &mut [u8], requester: &mut [u8]) {
+fn receive_cut(
+    rt: &impl Print,
+    line: &[u8],
+    piece: &[u8],
+    reader: &mut [u8],
+    requester: &mut [u8],
+) -> io::Result<()> {
     let n = fields::count(line, 1);
-    receive_by(octets::part(piece, 0, n), PIECE_ROOM, reader, requester);
+    receive_by(rt, octets::part(piece, 0, n), PIECE_ROOM, reader, requester)?;
     receive_by(
+        rt,
         octets::part(piece, n, PIECE_ROOM),
         PIECE_ROOM,
         reader,
         requester,
-    );
+    )
 }
 
 // Calls of receive, each with so many bytes at most, until the piece is used up or one uses nothing.
-fn receive_by(piece: &[u8], most: usize, reader: &mut [u8], requester: &mut [u8]) {
+fn receive_by(
+    rt: &impl Print,
+    piece: &[u8],
+    most: usize,
+    reader: &mut [u8],
+    requester: &mut [u8],
+) -> io::Result<()> {
     let mut at = 0;
     loop {
-        let used = receive_once(octets::part(piece, at, most), most == 1, reader, requester);
+        let used = receive_once(
+            rt,
+            octets::part(piece, at, most),
+            most == 1,
+            reader,
+            requester,
+        )?;
         if used == 0 {
-            return;
+            return Ok(());
         }
         if piece.len() - at <= used {
-            return;
+            return Ok(());
         }
         at += used;
     }
 }
 
 // One call of receive; how many bytes it used. With brief, one that has nothing to report prints nothing.
-fn receive_once(piece: &[u8], brief: bool, reader: &mut [u8], requester: &mut [u8]) -> usize {
+fn receive_once(
+    rt: &impl Print,
+    piece: &[u8],
+    brief: bool,
+    reader: &mut [u8],
+    requester: &mut [u8],
+) -> io::Result<usize> {
     let r = receive::receive(piece, reader, requester);
     let used = r.used;
     if brief {
         if print::is_quiet(r) {
-            return used;
+            return Ok(used);
         }
     }
-    print::receiving(r, reader);
-    used
+    print::receiving(rt, r, reader)?;
+    Ok(used)
 }

@@ -188,5 +188,6 @@ answer_frame p l h ms t k piece b =
     let w : Since (main_view q).received = rw i.1 (left-since main_fresh ms t fresh-since) in
     let m : MainMade = record { lent = k; call = Histories.receive piece } in
     answer-then (λ used n. Comes piece (main_view q).received used n × MessageMatching (main_view q).newest n)
-    (λ used n. InFrame piece (main_view q).received used n × MessageMatching (main_view q).newest n) (λ used m c. (comes-framed piece b (main_view q).received w used m c.0, c.1))
+    (λ used n. InFrame piece (main_view q).received used n × MessageMatching (main_view q).newest n)
+    (λ used m c. (comes-framed piece b (main_view q).received w used m c.0, c.1))
     (main_made q m).answer (main_made q m).out (answer_bytes q i.2 k piece)

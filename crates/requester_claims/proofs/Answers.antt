@@ -15,7 +15,8 @@ use Rattle.line.specs.Numbers.{status_length}
 use Rattle.line.specs.Judge.{judge}
 use Rattle.line.specs.Judge.{more_received}
 use Rattle.requester.specs.Limits.{last_number}
-use Rattle.requester.specs.State.{Request, RecoveryStep, fetch, acknowledge, alert, MainState, main_fresh, is_some, outstanding, request_frame}
+use Rattle.requester.specs.State.{Request, RecoveryStep, fetch, acknowledge, alert, MainState, main_fresh, is_some, outstanding}
+use Rattle.requester.specs.State.{request_frame}
 use Rattle.requester.specs.Requester
 use Rattle.requester.specs.Requester.{Heard, ground, other, answer, hear, settle, stays_out}
 use Rattle.requester.specs.Layout

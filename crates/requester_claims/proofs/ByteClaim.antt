@@ -89,7 +89,8 @@ module _ (number : ℕ) (reader : List ℕ) (t : Option RecoveryStep) (k : Bool)
   GivenHeard none = Unit {0}
   GivenHeard (some h) = Given reader (settle t k h).handed
 
-  given-heard : (a : LineReader.ReadReport) → LineReader.valid_reader reader ≡ true → data_fit a ≡ true → GivenHeard (heard_of number reader a)
+  given-heard : (a : LineReader.ReadReport) → LineReader.valid_reader reader ≡ true → data_fit a ≡ true
+      → GivenHeard (heard_of number reader a)
   unfolding heard_of data_fit hear
   given-heard (LineReader.refused n) v f = tt
   given-heard LineReader.more v f = cond-by GivenHeard (is_overlong reader) (some ground) none (λ _. given-ground reader t k) (λ _. tt)

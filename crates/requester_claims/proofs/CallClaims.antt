@@ -18,7 +18,8 @@ use Rattle.line.specs.Limits.{longest_data}
 use Rattle.line.specs.Reader as LineReader
 use Rattle.line.proofs.Received.{valid-long, fresh-received, fresh-stays}
 use Rattle.requester.specs.Limits.{last_number}
-use Rattle.requester.specs.State.{Request, RecoveryStep, fetch, acknowledge, alert, MainState, main_state, main_fresh, is_some, outstanding_of}
+use Rattle.requester.specs.State.{Request, RecoveryStep, fetch, acknowledge, alert, MainState, main_state, main_fresh, is_some}
+use Rattle.requester.specs.State.{outstanding_of}
 use Rattle.requester.specs.State.{request_frame, idle_standing, standing_of, standing}
 use Rattle.requester.specs.Requester
 use Rattle.requester.specs.Requester.{stays_out}
@@ -238,7 +239,8 @@ module _ (p : MainParts) (v : MainPartsValid p) where
   interrupt-meets =
       let t = Layout.recovery_of r in
       rw v.requester
-      (cond_both (λ (x : Calls.InterruptOutcome) (y : Option RecoveryStep). Interrupts x (Requester.interrupted_in y (main_view p))) (eqb t 0)
+      (cond_both (λ (x : Calls.InterruptOutcome) (y : Option RecoveryStep). Interrupts x (Requester.interrupted_in y (main_view p)))
+      (eqb t 0)
       (λ _. begin-meets)
       (λ _.
       step-some t (λ y. Interrupts (Calls.interrupt_outcome none r) (Requester.interrupted_in y (main_view p))) (meanwhile-meets fetch)
@@ -270,7 +272,8 @@ module _ (p : MainParts) (v : MainPartsValid p) where
       where
         by : (a b : Bool) → eqb (Layout.unsent_of r) 1 ≡ b
             → Sends
-            (cond (a && b) (Calls.put_into frame room r (overlay Layout.unsent_offset (0 ∷ []) r)) (Calls.put_outcome (Calls.wrote 0) room r))
+            (cond (a && b) (Calls.put_into frame room r (overlay Layout.unsent_offset (0 ∷ []) r))
+            (Calls.put_outcome (Calls.wrote 0) room r))
             (Requester.sent_of (length room) (cond a (some (Layout.out_request r)) none) (main_view p))
         by true true e = rw e (rw e at flag-meets)
         by true false e = rw e (rw e at nothing-meets)

@@ -17,7 +17,8 @@ use Rattle.line.specs.Reader as LineReader
 use Rattle.requester.specs.Limits.{last_number}
 use Rattle.requester.specs.State.{RecoveryStep, fetch, acknowledge, alert, is_some}
 use Rattle.requester.specs.Requester
-use Rattle.requester.specs.Requester.{Heard, ground, other, answer, Next, same, again, anew, idle, hear, fails_decode, reply_sequence, settle}
+use Rattle.requester.specs.Requester.{Heard, ground, other, answer, Next, same, again, anew, idle, hear, fails_decode, reply_sequence}
+use Rattle.requester.specs.Requester.{settle}
 use Rattle.requester.specs.Layout
 use Rattle.requester.specs.Calls
 use Rattle.requester.specs.Calls.{handed_report_of}

@@ -63,7 +63,8 @@ module _ (n : ℕ) where
 
 -- 14 where no recovery runs and there is no number
 interrupt-number : (n : ℕ) (r t : List ℕ) (b c : Bool)
-    → InterruptBy n (cond b (cond c (Calls.interrupt_outcome (some 14) r) (Calls.interrupt_outcome none t)) (Calls.interrupt_outcome none r))
+    → InterruptBy n
+    (cond b (cond c (Calls.interrupt_outcome (some 14) r) (Calls.interrupt_outcome none t)) (Calls.interrupt_outcome none r))
     (cond (not (not b) && c) (some 14) none)
 interrupt-number n r t true true = same n 14
 interrupt-number n r t true false = none_done n
@@ -107,7 +108,8 @@ main_refused_exactly p (Histories.send room) n =
     let r = p.requester in
     rw (outstanding-is r)
     (cond-not (PutBy n) (valid_requester r)
-    (send-number n room r _ (Layout.newest_number r) (Layout.out_request r) (Layout.is_outstanding r) (eqb (Layout.unsent_of r) 1)) (same n 12))
+    (send-number n room r _ (Layout.newest_number r) (Layout.out_request r) (Layout.is_outstanding r) (eqb (Layout.unsent_of r) 1))
+    (same n 12))
 main_refused_exactly p (Histories.receive piece) n = receive-number n p piece
 main_refused_exactly p Histories.state n = cond-not (StateBy n) (valid_requester p.requester) (none-stands n _) (same n 12)
 

@@ -60,7 +60,8 @@ main_tests p (Histories.receive piece) = table_test 12 (not (Calls.main_valid_pa
 main_tests p Histories.state = part_test p ∷ []
 
 abbrev pub MainRefusedExactly : Type 0
-MainRefusedExactly = (p : MainParts) (c : MainCall) (n : ℕ) → ((main_did p c).answer ≡ refused n) ↔ (first_failing (main_tests p c) ≡ some n)
+MainRefusedExactly =
+    (p : MainParts) (c : MainCall) (n : ℕ) → ((main_did p c).answer ≡ refused n) ↔ (first_failing (main_tests p c) ≡ some n)
 
 abbrev pub MainStartAccepted : Type 0
 MainStartAccepted = (p : MainParts) → ((main_did p Histories.start).answer ≡ done) ↔ MainLongEnough p

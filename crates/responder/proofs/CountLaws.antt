@@ -26,7 +26,8 @@ step_counts : (piece s : List ℕ) (c : Counters) → LineReader.valid_reader s 
     bumped_for_all c (endings (received_of s) piece)
     ≡ bumped_for_all (bumped_for c (Receive.ended_by_reader o.state o.answer))
     (endings (received_of (Receive.reader_behind o.state o.answer)) (drop o.used piece))
-unfolding LineReader.read_piece LineReader.one_byte_later Receive.ended_by_reader Receive.reader_behind Receive.sets_passphrase endings bumped_for
+unfolding LineReader.read_piece LineReader.one_byte_later Receive.ended_by_reader Receive.reader_behind Receive.sets_passphrase endings
+    bumped_for
     bumped_for_all
 step_counts [] s c v = refl
 step_counts (zero ∷ bs) s c v = rw (closed-received s v, finished-ended s v)

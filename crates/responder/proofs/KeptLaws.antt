@@ -571,7 +571,8 @@ valid-inner i v =
     (v.outbox, (and-eq-true_iff (valid_settings i.settings) _).1 (v.settings, v.registers))
 
 -- bytes sent, and other settings and registers
-changed-valid : (o bs s r : List ℕ) → valid_outbox o ≡ true → length bs ≤ longest_form + 1 → valid_settings s ≡ true → valid_registers r ≡ true
+changed-valid : (o bs s r : List ℕ) → valid_outbox o ≡ true → length bs ≤ longest_form + 1 → valid_settings s ≡ true → valid_registers r
+    ≡ true
     → Receive.valid_inner (Receive.inner (Receive.sent_box bs o) s r) ≡ true
 changed-valid o bs s r v h k l = valid-inner _ (record { outbox = box-valid o bs v h; settings = k; registers = l })
 

@@ -69,7 +69,8 @@ read-used (suc b ∷ bs) s =
     let q = read-used bs (LineReader.pushed s (suc b)) in
     rw (read_next s b bs) (record { most = omega (arith, q.most); reads_one = λ h. omega arith })
 
-pub read-valid : (s piece : List ℕ) → LineReader.valid_reader s ≡ true → LineReader.valid_reader (LineReader.read_piece s piece).state ≡ true
+pub read-valid : (s piece : List ℕ) → LineReader.valid_reader s ≡ true → LineReader.valid_reader (LineReader.read_piece s piece).state
+    ≡ true
 read-valid s piece v = (read_stays piece s v).valid
 
 -- a call of `read` on a valid state
@@ -198,7 +199,8 @@ carried-both image f i version sequence command d t v w h b o c e =
 
 module _ (image f o s t : List ℕ) (version sequence command : ℕ) (d : List ℕ) where
   abbrev Carried : Outcome → Receive.Inner → Type 0
-  Carried r = Judged image f (Receive.inner o s t) (good (Receive.message_with version sequence command d)) (step_report r) (served_report r)
+  Carried r =
+      Judged image f (Receive.inner o s t) (good (Receive.message_with version sequence command d)) (step_report r) (served_report r)
 
   -- a key set, by a call of `set_key`
   pub judged-set : {key result : ℕ} {h : Receive.Head} {o' s' : List ℕ} → command ≡ 0x10 → version_served version ≡ true
@@ -206,7 +208,8 @@ module _ (image f o s t : List ℕ) (version sequence command : ℕ) (d : List �
       → (key ≡ number_at 1 d 0) × (key < 256) → h ≡ Receive.reply_head version sequence
       → Receive.key_set_parts result o' s' ≡ Receive.key_set_answered o s h d
       → Carried (outcome.KeySet key result) (Receive.inner o' s' t)
-  unfolding step_report served_report Receive.served_by_verdict Receive.inner_by Receive.key_set_answered Receive.command_leaves command_number
+  unfolding step_report served_report Receive.served_by_verdict Receive.inner_by Receive.key_set_answered Receive.command_leaves
+      command_number
   judged-set {key} {result} c a g w l b n e =
       let k = ap (λ (x : Receive.KeySet). Receive.inner x.outbox x.settings t) (rw n at e) in
       let m : command_of_number command ≡ some Command.key_set = rw c (of_number Command.key_set) in
@@ -302,7 +305,8 @@ module _ (image piece : List ℕ) (p : Parts) (v : Receive.valid_parts p ≡ tru
       → record { used = n; answer = a; state = reader } ≡ LineReader.read_promise p.reader piece
       → Settled image p.factory (Receive.inner_of p) reader a g u (Receive.inner o s t) behind
       → record {
-        registers_after : record { used = n; ended = g; served = u; parts = parts behind o p.factory s t } ≡ Receive.valid_step image p piece;
+        registers_after : record { used = n; ended = g; served = u; parts = parts behind o p.factory s t }
+            ≡ Receive.valid_step image p piece;
         registers_after_2 : Receive.valid_parts (parts behind o p.factory s t) ≡ true;
       }
   unfolding Receive.valid_step Receive.after_answer
@@ -347,7 +351,8 @@ kept-state (collected.Bytes n) s = refl
 pub kept : (image piece : List ℕ) (p : Parts) (c : Collected) (reader : List ℕ) → Receive.valid_parts p ≡ true
     → length piece ≡ 1 → 0 < get_or piece 0 0 → LineReader.collect_outcome c reader ≡ LineReader.collect_promise p.reader piece
     → Receive.receive_outcome received.Done (Receive.parts_with p reader (Receive.inner_of p)) ≡ Receive.receive_promise image p piece
-unfolding Receive.receive_promise Receive.receive_report Receive.feed_bytes Receive.feed_byte LineReader.collect_promise LineReader.ahead_of00
+unfolding Receive.receive_promise Receive.receive_report Receive.feed_bytes Receive.feed_byte LineReader.collect_promise
+    LineReader.ahead_of00
     LineReader.read_piece LineReader.one_byte_later
 kept image [] p c reader v l b e = absurd (omega arith)
 kept image (zero ∷ bs) p c reader v l b e = absurd (omega arith)

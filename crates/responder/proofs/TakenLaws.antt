@@ -19,7 +19,8 @@ use Rattle.supervisor.specs.Limits.{most_alerts, longest_alert}
 use Rattle.supervisor.specs.Layout
 use Rattle.supervisor.specs.Valid.{valid_registers}
 use Rattle.responder.specs.Requests.{clear_bit}
-use Rattle.responder.specs.Receive.{with_reply, moved_alerts, with_taken, is_retained, alert_registers, alert_parts, alert_answered, sent_box}
+use Rattle.responder.specs.Receive.{with_reply, moved_alerts, with_taken, is_retained, alert_registers, alert_parts, alert_answered}
+use Rattle.responder.specs.Receive.{sent_box}
 use Rattle.responder.specs.Receive.{Head, reply_head, reply_bytes}
 use Rattle.supervisor.proofs.ValidLaws.{registers-valid, all-each, alert-valid}
 use Rattle.responder.proofs.RecordLaws.{marked, length_marked, number-stored}
@@ -107,7 +108,8 @@ module _ (r : List ℕ) (version sequence : ℕ) (small : version < 256) (long :
       ∙ rw (
         overlay-one Layout.alert_count_offset left t (omega arith),
         f,
-        moved_down-fits s (Layout.alert_offset 1) Layout.alerts_offset ((most_alerts - 1) * Layout.alert_length) (omega arith) (omega arith),
+        moved_down-fits s (Layout.alert_offset 1) Layout.alerts_offset ((most_alerts - 1) * Layout.alert_length) (omega arith)
+            (omega arith),
         e,
         ← one_byte left (omega arith),
         a,

@@ -1,6 +1,7 @@
 -- What a received byte does to the lent parts, and what the calls that receive answer and leave.
 -- Assumes nothing: these are definitions.
-use Rattle.std.specs.Prelude.{Bool, false, cond, not, ◌&&◌, ◌||◌, List, [], ◌∷◌, ◌++◌, ℕ, suc, ◌+◌, ◌-◌, ◌*◌, leb, ltb, eqb, length, take, drop, replicate}
+use Rattle.std.specs.Prelude.{Bool, false, cond, not, ◌&&◌, ◌||◌, List, [], ◌∷◌, ◌++◌, ℕ, suc, ◌+◌, ◌-◌, ◌*◌, leb, ltb, eqb, length, take}
+use Rattle.std.specs.Prelude.{drop, replicate}
 use Rattle.std.proofs.Math.Option.{Option, none, some}
 use Rattle.octets.specs.Bytes.{bytes, run, number_at, overlay, equal}
 use Rattle.line.specs.Numbers.{status_length, reply_acknowledged, reply_decode_failure, reply_bsu, reply_identity, reply_mac, reply_status}

@@ -1,6 +1,7 @@
 -- What a request earns and does, and what one received byte does (document 01, "Reading a request", "Requests and what they do").
 -- Assumes nothing: these are definitions.
-use Rattle.std.specs.Prelude.{Bool, true, cond, not, ◌&&◌, ◌||◌, List, [], ◌∷◌, ◌++◌, ℕ, zero, suc, ◌-◌, ◌^◌, leb, ltb, eqb, length, take, drop, replicate}
+use Rattle.std.specs.Prelude.{Bool, true, cond, not, ◌&&◌, ◌||◌, List, [], ◌∷◌, ◌++◌, ℕ, zero, suc, ◌-◌, ◌^◌, leb, ltb, eqb, length, take}
+use Rattle.std.specs.Prelude.{drop, replicate}
 use Rattle.std.proofs.Math.Option.{Option, none, some}
 use Rattle.octets.specs.Bytes.{bytes, number_at, equal, run, bit}
 use Rattle.line.specs.Numbers.{first_version, second_version, top_bit, all_ones, reply_acknowledged, reply_decode_failure, reply_bsu}
@@ -13,7 +14,8 @@ use Rattle.line.specs.Judge.{judge, more_received}
 use Rattle.supervisor.specs.Limits.{inventory_bad_index, highest_key, first_setting, longest_setting, shortest_setting, last_edition}
 use Rattle.supervisor.specs.Limits.{most_kept, longest_block}
 use Rattle.supervisor.specs.State.{Item, Factory, Settings, setting, Recorded, Alert, Retained, State}
-use Rattle.supervisor.specs.State.{with_status, with_reboot, with_power_off, with_boot_failure, with_panic, with_setting, with_settings, with_waiting}
+use Rattle.supervisor.specs.State.{with_status, with_reboot, with_power_off, with_boot_failure, with_panic, with_setting, with_settings}
+use Rattle.supervisor.specs.State.{with_waiting}
 use Rattle.supervisor.specs.State.{with_retained, with_received, with_pending}
 use Rattle.supervisor.specs.Number.{top_set}
 use Rattle.supervisor.specs.Local.{Found, lookup}

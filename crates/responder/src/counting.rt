@@ -9,7 +9,7 @@ use crate::receive::{Received, are_valid, valid_step};
 use counters::Counters;
 
 // What a receive that counts by value says, and the counters that it leaves.
-#[derive(Drop)]
+#[derive(Clone, Copy)]
 pub struct Tallied {
     pub answer: Received,
     pub counters: Counters,

@@ -19,14 +19,14 @@ use supervisor::number::RequestNumber;
 use supervisor::valid;
 
 // How many bytes of the piece a call of `step` read, and how the frame ended.
-#[derive(Drop)]
+#[derive(Clone, Copy)]
 pub struct Stepped {
     pub used: usize,
     pub outcome: Outcome,
 }
 
 // What a call of `receive` answers.
-#[derive(Drop)]
+#[derive(Clone, Copy)]
 pub enum Received {
     Done,
     Refused,

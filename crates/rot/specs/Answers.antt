@@ -35,4 +35,5 @@ rot_outcome a out = record { answer = a; out = out }
 
 -- bytes at the start of the room; 8 where they do not fit, and nothing changes
 unfoldable pub rot_write_into : List ℕ → List ℕ → RotOutcome
-rot_write_into bs out = cond (ltb (length out) (length bs)) (rot_outcome (refused 8) out) (rot_outcome (wrote (length bs)) (overlay 0 bs out))
+rot_write_into bs out =
+    cond (ltb (length out) (length bs)) (rot_outcome (refused 8) out) (rot_outcome (wrote (length bs)) (overlay 0 bs out))

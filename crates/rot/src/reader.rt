@@ -13,14 +13,14 @@ use crate::writer::Written;
 use crate::{crc, limits, writer};
 
 // A message that is handed out: its type, and how long its payload is, which lies in the input.
-#[derive(Drop)]
+#[derive(Clone, Copy)]
 pub struct Head {
     pub kind: u8,
     pub length: usize,
 }
 
 // What a call of `read` answers; `rot_read_report` in specs/Reading.antt gives document 02's numbers and values.
-#[derive(Drop)]
+#[derive(Clone, Copy)]
 pub enum Answer {
     Refused(Refusal),
     Nothing,
@@ -29,7 +29,7 @@ pub enum Answer {
 }
 
 // Whether `payload` is handed out, or refused as `read` refuses the input.
-#[derive(Drop)]
+#[derive(Clone, Copy)]
 pub enum Handed {
     Refused(Refusal),
     Given,

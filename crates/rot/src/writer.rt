@@ -11,7 +11,7 @@ use crate::refusals::Refusal;
 use crate::{crc, limits};
 
 // What a call of `write` answers: how many bytes it wrote, or why it wrote none.
-#[derive(Drop)]
+#[derive(Clone, Copy)]
 pub enum Written {
     Done(usize),
     Refused(Refusal),

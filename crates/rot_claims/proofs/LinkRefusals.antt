@@ -20,7 +20,8 @@ use Rattle.rot.specs.Answers.{refused, nothing, handed, wrote, RotOutcome, rot_o
 use Rattle.rot.specs.Reading
 use Rattle.rot.specs.Reading.{type_of, rot_payload, no_input, nothing_sent, wrong_protocol, short_header, long_payload}
 use Rattle.rot.specs.Reading.{cut_short, wrong_crc, wrong_type}
-use Rattle.rot.specs.Reading.{judge_message, judge_length, rot_judge, serve_message, answer_to, rot_read_promise, handed_part, payload_promise}
+use Rattle.rot.specs.Reading.{judge_message, judge_length, rot_judge, serve_message, answer_to, rot_read_promise, handed_part}
+use Rattle.rot.specs.Reading.{payload_promise}
 use Rattle.rot.specs.Writing.{rot_message_with, rot_write_promise}
 use Rattle.rot.proofs.Register.{by-table}
 use Rattle.rot_claims.specs.Item7.{link_tests, LinkRefusedExactly, LinkUntouched, NothingSent, LinkWriterRefusedExactly}

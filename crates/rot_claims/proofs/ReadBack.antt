@@ -133,7 +133,8 @@ pub record Wrote (m : RotMessage) (n : ℕ) (o : RotOutcome) : Type 0 where
   pub sendable : Sendable m
   pub bytes : take n o.out ≡ rot_message m
 
-pub wrote-message : (m : RotMessage) (room : List ℕ) (n : ℕ) → (rot_write_promise m room).answer ≡ wrote n → Wrote m n (rot_write_promise m room)
+pub wrote-message : (m : RotMessage) (room : List ℕ) (n : ℕ) → (rot_write_promise m room).answer ≡ wrote n
+    → Wrote m n (rot_write_promise m room)
 unfolding rot_write_promise
 wrote-message m room n =
     let P : RotOutcome → Type 0 = λ o. o.answer ≡ wrote n → Wrote m n o in

@@ -10,6 +10,7 @@ use Rattle.rot_claims.specs.Samples.{rot_sample_meant, rot_samples}
 use Rattle.rot_claims.specs.Item7.{RotSamplesHold}
 
 pub samples_hold : RotSamplesHold
-unfolding rot_sample_meant rot_samples number bytes overlay after_bit after_bits bits after_bytes crc header_start crc_of rot_message rot_write_into
+unfolding rot_sample_meant rot_samples number bytes overlay after_bit after_bits bits after_bytes crc header_start crc_of rot_message
+    rot_write_into
     judge_message judge_length rot_judge serve_message answer_to rot_read_promise
 samples_hold = refl

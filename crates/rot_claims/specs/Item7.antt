@@ -1,6 +1,7 @@
 -- Document 02's item 7: 003's vectors; refusals; what was written is read back, bytes behind it or not; the echo's answer; the CRC's table.
 -- Assumes nothing: these are definitions and statements.
-use Rattle.std.specs.Prelude.{◌≡◌, true, cond, not, ◌&&◌, List, [], ◌∷◌, ◌++◌, map, ◌↔◌, ℕ, ◌*◌, ◌/◌, ◌%◌, ◌^◌, ◌≤◌, ◌<◌, eqb, ltb, length, take, drop, get_or}
+use Rattle.std.specs.Prelude.{◌≡◌, true, cond, not, ◌&&◌, List, [], ◌∷◌, ◌++◌, map, ◌↔◌, ℕ, ◌*◌, ◌/◌, ◌%◌, ◌^◌, ◌≤◌, ◌<◌, eqb, ltb, length}
+use Rattle.std.specs.Prelude.{take, drop, get_or}
 use Rattle.std.proofs.Math.Option.{none, some}
 use Rattle.std.specs.Int.Bits.{bit_xor}
 use Rattle.octets.specs.TableTests.{TableTest, table_test, first_failing}
@@ -73,7 +74,8 @@ LinkWriterRefusedExactly = (m : RotMessage) (out : List ℕ) (n : ℕ)
     → ((rot_write_promise m out).answer ≡ refused n) ↔ (first_failing (link_writer_tests m out) ≡ some n)
 
 abbrev pub LinkWriterUntouched : Type 0
-LinkWriterUntouched = (m : RotMessage) (out : List ℕ) (n : ℕ) → (rot_write_promise m out).answer ≡ refused n → (rot_write_promise m out).out ≡ out
+LinkWriterUntouched = (m : RotMessage) (out : List ℕ) (n : ℕ) → (rot_write_promise m out).answer ≡ refused n → (rot_write_promise m out).out
+    ≡ out
 
 abbrev pub LinkWriterWrites : Type 0
 LinkWriterWrites = (m : RotMessage) (out : List ℕ) → first_failing (link_writer_tests m out) ≡ none

@@ -111,7 +111,8 @@ record_step image at =
     (cond (ltb (longest_setting (saved_key_at image at)) (saved_length_at image at)) (bad 32 (at + 7))
     (complete image (at + (9 + saved_length_at image at))
     (complete image (at + (11 + saved_length_at image at))
-    (cond (eqb (saved_checksum_at image at) (checksum (saved_body_at image at))) (to (saved_key_at image at) (at + (11 + saved_length_at image at)))
+    (cond (eqb (saved_checksum_at image at) (checksum (saved_body_at image at)))
+    (to (saved_key_at image at) (at + (11 + saved_length_at image at)))
     (bad 33 (at + (9 + saved_length_at image at))))))))
 
 -- behind a record of the key `before`: the end mark, and nothing behind it; or a record, its fields in order

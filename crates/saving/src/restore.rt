@@ -24,7 +24,7 @@ const CUT_SHORT: u8 = 34;
 
 const BYTES_AFTER: u8 = 35;
 
-#[derive(Drop)]
+#[derive(Clone, Copy)]
 pub enum Restored {
     Done,
     Refused,

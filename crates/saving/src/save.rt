@@ -10,7 +10,7 @@ ghost use Rattle.saving.specs.Calls.{body_bytes, saved_record_bytes, image_bytes
 use crate::image;
 use supervisor::{layout, valid};
 
-#[derive(Drop)]
+#[derive(Clone, Copy)]
 pub enum Saved {
     Done(usize),
     Refused,

@@ -18,7 +18,8 @@ use Rattle.line.proofs.Checksum.{checksum-bound}
 use Rattle.supervisor.specs.Limits.{first_setting, longest_setting}
 use Rattle.supervisor.proofs.OffsetLaws.{longest-short}
 use Rattle.saving.specs.Saving.{highest_saved, record_mark, end_mark, record_body, saved_record, to, ended}
-use Rattle.saving.specs.Saving.{saved_key_at, saved_edition_at, saved_length_at, saved_value_at, saved_body_at, saved_entry_at, follows, image_step}
+use Rattle.saving.specs.Saving.{saved_key_at, saved_edition_at, saved_length_at, saved_value_at, saved_body_at, saved_entry_at, follows}
+use Rattle.saving.specs.Saving.{image_step}
 use Rattle.saving.proofs.StepLaws.{Passed, end-good, key-good, record-good}
 use Rattle.saving.proofs.StoreLaws.{length-body, length-record}
 
@@ -35,7 +36,8 @@ length-here image xs rest at e = sym (length-drop at image) ∙ ap length e ∙ 
 pub end_read : (image : List ℕ) (before at : ℕ) → drop at image ≡ end_mark → image_step image before at ≡ ended
 end_read image before at e =
     let l = sym (length-drop at image) ∙ ap length e in
-    sym (end-good image before at (omega arith) refl (same_run-equal image at end_mark 0 2 (omega arith) (omega arith) (rw e)) (omega arith))
+    sym (end-good image before at (omega arith) refl (same_run-equal image at end_mark 0 2 (omega arith) (omega arith) (rw e))
+    (omega arith))
 
 -- ---- a record that was written
 
@@ -76,7 +78,8 @@ module _ (image : List ℕ) (at key edition : ℕ) (v rest : List ℕ) (e : drop
   body-here : run at (9 + length v) image ≡ record_body key edition v
   unfolding saved_record
   body-here =
-      rw add-zero at (part 0 (9 + length v) (omega arith)) ∙ take_at (record_body key edition v) _ (9 + length v) (length-body key edition v)
+      rw add-zero at (part 0 (9 + length v) (omega arith))
+      ∙ take_at (record_body key edition v) _ (9 + length v) (length-body key edition v)
 
   sum-here : number_at 2 image (at + (9 + length v)) ≡ checksum (record_body key edition v)
   unfolding saved_record bytes
@@ -145,5 +148,6 @@ module _ (image : List ℕ) (byte : Each Byte image) {before at key there : ℕ}
       ap (λ (body : List ℕ). body ++ bytes 2 (checksum body)) body-exact
       ∙ rw (← p.sum, number-run 2 (at + (9 + n)) image (omega (arith, whole)) byte, e, run-add at (9 + n) 2 image)
 
-  pub record-exact : drop at image ≡ saved_record (saved_key_at image at) (saved_edition_at image at) (saved_value_at image at) ++ drop there image
+  pub record-exact : drop at image ≡ saved_record (saved_key_at image at) (saved_edition_at image at) (saved_value_at image at)
+      ++ drop there image
   record-exact = rw (record-run, p.behind, ← drop-drop (11 + n) at image) (sym (take-append-drop (11 + n) (drop at image)))

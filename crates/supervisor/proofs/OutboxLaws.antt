@@ -31,7 +31,8 @@ last-of-run at n o p h =
     (number-one o (at + n - 1) (omega arith))
 
 after-some : (bs o : List ℕ) → 0 < length bs
-    → overlay outbox_terminator_owed_offset (last_non_zero_flag bs ∷ []) (overlay outbox_from_offset (bytes 2 (outbox_from o + length bs)) o)
+    → overlay outbox_terminator_owed_offset (last_non_zero_flag bs ∷ [])
+    (overlay outbox_from_offset (bytes 2 (outbox_from o + length bs)) o)
     ≡ outbox_after_take bs o
 unfolding outbox_after_take
 after-some [] o h = absurd (omega arith)

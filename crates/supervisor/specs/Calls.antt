@@ -1,6 +1,7 @@
 -- What each local call answers and leaves in the bytes that it is lent. This follows document 01, "When a call says no" and the rules it
 -- names. Assumes nothing: these are definitions.
-use Rattle.std.specs.Prelude.{Bool, true, false, cond, not, ◌&&◌, List, [], ◌∷◌, ◌++◌, ℕ, ◌+◌, ◌-◌, min, leb, ltb, eqb, length, replicate, get_or}
+use Rattle.std.specs.Prelude.{Bool, true, false, cond, not, ◌&&◌, List, [], ◌∷◌, ◌++◌, ℕ, ◌+◌, ◌-◌, min, leb, ltb, eqb, length, replicate}
+use Rattle.std.specs.Prelude.{get_or}
 use Rattle.std.proofs.Math.Option.{Option, none, some}
 use Rattle.octets.specs.Bytes.{bytes, run, number_at, overlay}
 use Rattle.octets.specs.Places.{LentBytes, Place, place_in, part_place}
@@ -164,7 +165,8 @@ post_promise r action text =
     cond (valid_registers r)
     (cond (eqb action 0) (registers_outcome (some 13) r)
     (cond (ltb Limits.longest_alert (length text)) (registers_outcome (some 9) r)
-    (cond (ltb (Layout.alert_count r) Limits.most_alerts) (registers_outcome none (with_alert r action text)) (registers_outcome (some 10) r))))
+    (cond (ltb (Layout.alert_count r) Limits.most_alerts) (registers_outcome none (with_alert r action text))
+    (registers_outcome (some 10) r))))
     (registers_outcome (some 12) r)
 
 -- ---- Set options
@@ -369,7 +371,8 @@ record_promise r k = cond (valid_registers r) (is (record_at r (record_offset k)
 unfoldable pub record_bytes_promise : List ℕ → Kind → List ℕ
 record_bytes_promise r k =
     cond (valid_registers r)
-    (cond (eqb (Layout.record_held r (record_offset k)) 1) (run (record_offset k + Layout.record_kept_offset) (kept_count r (record_offset k)) r)
+    (cond (eqb (Layout.record_held r (record_offset k)) 1)
+    (run (record_offset k + Layout.record_kept_offset) (kept_count r (record_offset k)) r)
     [])
     []
 

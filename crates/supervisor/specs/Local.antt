@@ -1,6 +1,7 @@
 -- What each local call answers and does, in document 01's words: start, keys, alerts, options, sending, the line signal.
 -- Assumes nothing: these are definitions.
-use Rattle.std.specs.Prelude.{Bool, true, false, cond, not, ◌||◌, List, [], ◌∷◌, ◌++◌, ℕ, zero, suc, ◌+◌, ◌^◌, leb, ltb, eqb, length, take, drop, get_or}
+use Rattle.std.specs.Prelude.{Bool, true, false, cond, not, ◌||◌, List, [], ◌∷◌, ◌++◌, ℕ, zero, suc, ◌+◌, ◌^◌, leb, ltb, eqb, length, take}
+use Rattle.std.specs.Prelude.{drop, get_or}
 use Rattle.std.proofs.Math.Option.{Option, none, some}
 use Rattle.octets.specs.Bytes.{bytes, bit}
 use Rattle.supervisor.specs.Limits.{bsu_a, bsu_b, inventory_item, inventory_absent, inventory_failed, most_items, longest_item_data}

@@ -8,7 +8,7 @@ ghost use Rattle.supervisor.specs.Calls.{registers_outcome, post_report, with_al
 
 use crate::{layout, valid};
 
-#[derive(Drop)]
+#[derive(Clone, Copy)]
 pub enum Posted {
     Done,
     Refused,

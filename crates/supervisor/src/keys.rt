@@ -9,7 +9,7 @@ ghost use Rattle.supervisor.specs.Calls.{found_at_promise, edition_at_promise, v
 
 use crate::{layout, valid};
 
-#[derive(Drop)]
+#[derive(Clone, Copy)]
 pub enum Found {
     Refused,
     Value(usize),
@@ -19,7 +19,7 @@ pub enum Found {
     SetOnly,
 }
 
-#[derive(Drop)]
+#[derive(Clone, Copy)]
 pub enum EditionFound {
     Refused,
     Edition(u32),

@@ -8,7 +8,7 @@ use line::numbers;
 #[derive(Clone, Copy)]
 pub struct RequestNumber(pub u64);
 
-#[derive(Drop)]
+#[derive(Clone, Copy)]
 pub struct ReplyNumber(pub u64);
 
 // The request's number with the top bit set.

@@ -5,7 +5,7 @@ ghost use Rattle.supervisor.specs.Calls.{registers_outcome, options_report, opti
 
 use crate::{layout, valid};
 
-#[derive(Drop)]
+#[derive(Clone, Copy)]
 pub enum OptionsSet {
     Done,
     Refused,

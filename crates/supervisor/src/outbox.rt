@@ -5,7 +5,7 @@ ghost use Rattle.supervisor.specs.Calls.{take_outcome, take_promise};
 
 use crate::{layout, valid};
 
-#[derive(Drop)]
+#[derive(Clone, Copy)]
 pub enum Taken {
     Moved(usize),
     Refused,

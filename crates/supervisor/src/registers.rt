@@ -8,7 +8,7 @@ ghost use Rattle.supervisor.specs.Calls.{record_promise, record_bytes_promise, r
 
 use crate::{layout, valid};
 
-#[derive(Drop)]
+#[derive(Clone, Copy)]
 pub enum SignalRead {
     Refused,
     Asserted,
@@ -16,13 +16,13 @@ pub enum SignalRead {
 }
 
 // Reboot asked for, power off asked for.
-#[derive(Drop)]
+#[derive(Clone, Copy)]
 pub struct Asked {
     pub reboot: bool,
     pub power_off: bool,
 }
 
-#[derive(Drop)]
+#[derive(Clone, Copy)]
 pub enum FlagsRead {
     Refused,
     Read(Asked),
@@ -35,14 +35,14 @@ pub enum Kind {
 }
 
 // A record's code, the whole length of its rest, and how many bytes of the rest are kept.
-#[derive(Drop)]
+#[derive(Clone, Copy)]
 pub struct Entry {
     pub code: usize,
     pub whole: usize,
     pub kept: usize,
 }
 
-#[derive(Drop)]
+#[derive(Clone, Copy)]
 pub enum Recorded {
     Refused,
     Nothing,

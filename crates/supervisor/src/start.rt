@@ -8,7 +8,7 @@ ghost use Rattle.supervisor.specs.Calls.{parts, start_outcome, start_promise};
 
 use crate::{layout, valid};
 
-#[derive(Drop)]
+#[derive(Clone, Copy)]
 pub enum Started {
     Done,
     Refused,

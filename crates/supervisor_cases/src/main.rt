@@ -10,7 +10,6 @@ mod run;
 
 use std::io;
 use std::io::Read;
-
 use text_lines::streams;
 
 fn main(rt: HostRuntime) -> io::Result<()> {

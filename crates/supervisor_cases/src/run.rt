@@ -2,64 +2,68 @@
 // Assumes nothing: a command whose counts do not fit does nothing.
 use crate::case::{Own, Parts};
 use crate::{case, local, print, receiving};
+use std::io;
 use text_lines::{fields, pieces, streams};
 
 // What a command does to the parts; it calls the supervisor, stores, compares or ends the line.
-pub(crate) fn call(line: &[u8], own: Own, parts: Parts) -> Parts {
+pub(crate) fn call(rt: &impl Print, line: &[u8], own: Own, parts: Parts) -> io::Result<Parts> {
     let key = fields::key(line);
     match key {
-        b'a' => begin(own, parts),
-        b'r' | b'c' | b'b' | b'q' => receiving::receive_by(line, key, own, parts),
-        b't' => local::take_into(fields::count(line, 1), parts),
+        b'a' => begin(rt, own, parts),
+        b'r' | b'c' | b'b' | b'q' => receiving::receive_by(rt, line, key, own, parts),
+        b't' => local::take_into(rt, fields::count(line, 1), parts),
         b'l' => {
-            local::look_up(line, parts);
-            parts
+            local::look_up(rt, line, parts)?;
+            Ok(parts)
         }
         b'k' => {
-            local::ask_edition(line, parts);
-            parts
+            local::ask_edition(rt, line, parts)?;
+            Ok(parts)
         }
         b'w' => {
-            local::save_into(fields::count(line, 1), parts);
-            parts
+            local::save_into(rt, fields::count(line, 1), parts)?;
+            Ok(parts)
         }
-        b'x' => local::restore_from(own, parts),
+        b'x' => local::restore_from(rt, own, parts),
         b'g' | b'h' => {
-            compare(key, own, parts);
-            parts
+            compare(rt, key, own, parts)?;
+            Ok(parts)
         }
-        b'=' | b'n' | b'i' => set(line, key, own, parts),
-        _ => local::ask(line, key, own, parts),
+        b'=' | b'n' | b'i' => set(rt, line, key, own, parts),
+        _ => local::ask(rt, line, key, own, parts),
     }
 }
 
-fn begin(own: Own, parts: Parts) -> Parts {
+fn begin(rt: &impl Print, own: Own, parts: Parts) -> io::Result<Parts> {
     let data = own.data;
-    receiving::begin(data, parts)
+    receiving::begin(rt, data, parts)
 }
 
 // A command that begins the case, lends or stores.
-fn set(line: &[u8], key: u8, own: Own, parts: Parts) -> Parts {
+fn set(rt: &impl Print, line: &[u8], key: u8, own: Own, parts: Parts) -> io::Result<Parts> {
     let part = fields::count(line, 1);
     let n = fields::count(line, 2);
     let piece = own.piece;
     match key {
         b'=' => {
-            streams::name(line);
-            case::fresh_parts()
+            streams::name(rt, line)?;
+            Ok(case::fresh_parts())
         }
-        b'n' => case::lend(parts, part, n),
-        _ => case::store(parts, part, n, octets::part(&piece, 0, own.piece_count)),
+        b'n' => Ok(case::lend(parts, part, n)),
+        _ => Ok(case::store(parts, part, n, octets::part(&piece, 0, own.piece_count))),
     }
 }
 
 // Whether the parts are as noted: all five, or for h the stores and the registers.
-fn compare(key: u8, own: Own, parts: Parts) {
+fn compare(rt: &impl Print, key: u8, own: Own, parts: Parts) -> io::Result<()> {
     let same = case::digest_of_stores(parts) == own.stores_noted;
     if key == b'h' {
-        return print::stores_compared(same);
+        return print::stores_compared(rt, same);
     }
-    print::compared(same && case::digest_of_others(parts) == own.others_noted);
+    print::compared(
+        rt,
+        same && case::digest_of_others(parts) == own.others_noted,
+    )
 }
 
 // What a command does to the caller's own bytes; a command that neither adds to the piece nor is m, n or v leaves none.

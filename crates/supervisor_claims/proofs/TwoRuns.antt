@@ -28,7 +28,8 @@ use Rattle.supervisor_claims.proofs.claims.TwoRunLaws.{Like, Grow, Room, Pair, a
 -- the same comes out, and what is left differs only in the passphrase
 abbrev Follow : List ℕ → List Made → State → State → Type 0
 Follow w ms s t =
-    (outputs_by_frames w s ms ≡ outputs_by_frames w t ms) × (without_passphrase (left_by_frames w s ms) ≡ without_passphrase (left_by_frames w t ms))
+    (outputs_by_frames w s ms ≡ outputs_by_frames w t ms)
+    × (without_passphrase (left_by_frames w s ms) ≡ without_passphrase (left_by_frames w t ms))
 
 like-without : {s t : State} → Like s t → without_passphrase s ≡ without_passphrase t
 like-without {s} {t} l =
@@ -39,7 +40,8 @@ unfolding sets_to_come sets_brought outputs_by_frames left_by_frames
 calls-follow [] w s t p = (refl, like-without p.like)
 calls-follow (m ∷ ms) w s t p = by (starts_anew m) refl (calls-follow ms (received_since w m))
   where
-    by : (b : Bool) → starts_anew m ≡ b → ((x y : State) → Pair (sets_to_come (received_since w m) ms) x y → Follow (received_since w m) ms x y)
+    by : (b : Bool) → starts_anew m ≡ b
+        → ((x y : State) → Pair (sets_to_come (received_since w m) ms) x y → Follow (received_since w m) ms x y)
         → Follow w (m ∷ ms) s t
     by true e rest =
         let g = anew-same w s t m e in

@@ -87,7 +87,8 @@ ReceivedSince = (f : Factory) (ms : List Made)
 
 abbrev pub FramesInOrderAfter : Type 0
 FramesInOrderAfter = (f : Factory) (ms : List Made) (image bs : List ℕ)
-    → let s = left_meant (fresh f) ms in receive_stream image s bs ≡ after_all_frames image s ((split (received_since_all [] ms)).rest ++ bs)
+    → let s = left_meant (fresh f) ms in
+    receive_stream image s bs ≡ after_all_frames image s ((split (received_since_all [] ms)).rest ++ bs)
 
 abbrev pub RequestCarried : Type 0
 RequestCarried = (image : List ℕ) (s : State) (b : ℕ) (bs : List ℕ) (m : Message) → verdict (b ∷ bs) ≡ good m
@@ -239,7 +240,8 @@ abbrev pub AllDone : List ℕ → Lent → Parts → List (List ℕ) → Type 0
 AllDone image l p pieces = AllAnswer done (outputs p (receive_calls image l pieces))
 
 abbrev pub AllRefused : List ℕ → Lent → Parts → List (List ℕ) → Type 0
-AllRefused image l p pieces = AllAnswer (refused 12) (outputs p (receive_calls image l pieces)) × (left p (receive_calls image l pieces) ≡ p)
+AllRefused image l p pieces = AllAnswer (refused 12) (outputs p (receive_calls image l pieces))
+    × (left p (receive_calls image l pieces) ≡ p)
 
 abbrev pub CutAny : Type 0
 CutAny = (image : List ℕ) → Each Byte image → (l : Lent) (p : Parts) → Bytes p

@@ -122,7 +122,8 @@ left_by_frames w s (m ∷ ms) = left_by_frames (received_since w m) (carried_mad
 -- the frames that were carried out or answered since the last accepted start, call after call: fs before, and so after the calls
 unfoldable pub carried_frames : List ℕ → List (List ℕ) → List Made → List (List ℕ)
 carried_frames w fs [] = fs
-carried_frames w fs (m ∷ ms) = carried_frames (received_since w m) (cond (starts_anew m) [] (fs ++ frames_closed_by w (bytes_received_by m))) ms
+carried_frames w fs (m ∷ ms) =
+    carried_frames (received_since w m) (cond (starts_anew m) [] (fs ++ frames_closed_by w (bytes_received_by m))) ms
 
 -- ---- A frame behind calls
 

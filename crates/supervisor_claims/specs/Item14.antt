@@ -45,7 +45,8 @@ TwoRuns = (r s : Run) → SameButPassphrase (left_by_run r) (left_by_run s) → 
     × SameButPassphrase (left_mixed (left_by_run r) cs) (left_mixed (left_by_run s) cs)
 
 abbrev pub TwoStates : Type 0
-TwoStates = (r s : Run) → without_passphrase (view (left_by_run r)) ≡ without_passphrase (view (left_by_run s)) → (ms : List Made) → AllTyped ms
+TwoStates = (r s : Run) → without_passphrase (view (left_by_run r)) ≡ without_passphrase (view (left_by_run s)) → (ms : List Made)
+    → AllTyped ms
     → let n = sets_to_come (received_in_run r) ms in
     passphrase_edition (left_by_run r) + n < Limits.last_edition → passphrase_edition (left_by_run s) + n < Limits.last_edition
     → (outputs (left_by_run r) ms ≡ outputs (left_by_run s) ms)

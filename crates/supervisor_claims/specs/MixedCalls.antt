@@ -162,7 +162,8 @@ carried_mixed w s (line_read l piece) =
 carried_mixed w s (line_tail l) =
     mixed_means (line_tail (cond (enough_of_reader l) (tail_meant (split w).rest) (TailReport.refused 12))) (some []) s
 carried_mixed w s (line_data l n) =
-    cond (enough_of_reader l) (cond (ltb longest_data n) (mixed_means (line_data (some 9)) (some []) s) (mixed_means (line_data none) none s))
+    cond (enough_of_reader l)
+    (cond (ltb longest_data n) (mixed_means (line_data (some 9)) (some []) s) (mixed_means (line_data none) none s))
     (mixed_means (line_data (some 12)) (some []) s)
 
 -- ---- Lists of calls

@@ -1,6 +1,7 @@
 -- What the frames seen tell of the supervisor: its settings by the sets, its first answers of factory data, the last alert's reply.
 -- Assumes nothing: these are definitions.
-use Rattle.std.specs.Prelude.{Bool, true, false, cond, ◌&&◌, ◌||◌, List, [], ◌∷◌, ℕ, suc, ◌+◌, ◌-◌, ltb, eqb, length, take, drop, get_or, set, replicate}
+use Rattle.std.specs.Prelude.{Bool, true, false, cond, ◌&&◌, ◌||◌, List, [], ◌∷◌, ℕ, suc, ◌+◌, ◌-◌, ltb, eqb, length, take, drop, get_or}
+use Rattle.std.specs.Prelude.{set, replicate}
 use Rattle.std.proofs.Math.Option.{Option, none, some, map}
 use Rattle.octets.specs.Bytes.{number_at, equal}
 use Rattle.line.specs.Message.{Message}

@@ -24,7 +24,8 @@ use Rattle.supervisor_claims.specs.View.{view, factory_of}
 use Rattle.supervisor_claims.specs.Sound.{Bytes, Sound}
 use Rattle.supervisor_claims.specs.LocalCalls.{LocalCall, Means, done_means, restore_means, save_means}
 use Rattle.supervisor_claims.specs.Histories as Histories
-use Rattle.supervisor_claims.specs.Histories.{Call, Typed, Answer, done, Did, did, Made, enough, Lent, lent_of, made, left, meant, meant_made}
+use Rattle.supervisor_claims.specs.Histories.{Call, Typed, Answer, done, Did, did, Made, enough, Lent, lent_of, made, left, meant}
+use Rattle.supervisor_claims.specs.Histories.{meant_made}
 use Rattle.supervisor_claims.specs.Histories.{AllTyped, start_with, up_to}
 use Rattle.supervisor_claims.specs.FrameHistory.{piece_read, is_accepted_start, bytes_received_by, starts_anew}
 use Rattle.supervisor_claims.specs.LastSet.{is_restore, accepts_restore, records_restored, records_of, some_records}

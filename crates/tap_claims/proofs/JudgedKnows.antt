@@ -141,7 +141,8 @@ module _ {key : ℕ} (h : ReadBack key) where
   none_seen z ss (x ∷ xs) ys r w found e g = absurd (let q : ◌≡◌ {A = ℕ} 0 1 = cc in omega arith)
 
   one_seen : (z : Setting) (ss : List SetSeen) (l : Listed) (ls : List Listed) → IsJudged z ss l
-      → (NoFailedRequest l → Seen (after_sets key z (valid_ahead l [])) (sets_newest_first key ss (valid_ahead l [])) ls) → Seen z ss (l ∷ ls)
+      → (NoFailedRequest l → Seen (after_sets key z (valid_ahead l [])) (sets_newest_first key ss (valid_ahead l [])) ls)
+      → Seen z ss (l ∷ ls)
   unfolding requests_listed after_sets sets_newest_first
   one_seen z ss l ls j rest [] ys r w found e g =
       let same : l ≡ reply (Line.good r) (some w) found = cc in

@@ -18,7 +18,8 @@ use Rattle.saving.specs.Saving
 use Rattle.saving.specs.Saving.{SavedEntry}
 use Rattle.supervisor_claims.proofs.claims.LastSetLaws.{replaced_other}
 use Rattle.line.specs.Message.{Message}
-use Rattle.tap.specs.Known.{KeyKnown, key_unset, key_unknown, Known, Copy, key_known, with_key, with_first, with_copy, most_firsts, candidates}
+use Rattle.tap.specs.Known.{KeyKnown, key_unset, key_unknown, Known, Copy, key_known, with_key, with_first, with_copy, most_firsts}
+use Rattle.tap.specs.Known.{candidates}
 use Rattle.tap.specs.Known.{known_restored, slot_of}
 use Rattle.tap.specs.Accused.{differs_from, first_held, changed, accused_if, changed_accused}
 use Rattle.tap.specs.Tap.{first_told}
@@ -50,7 +51,8 @@ fits-at-start f = record {
   keys_long = refl;
   firsts_long = refl;
   keys = λ key h.
-      rw (alike-known key_unset key h, get_or-replicate setting_count (key - first_setting) unset unset (omega (arith, h))) (refl, λ _. refl);
+      rw (alike-known key_unset key h, get_or-replicate setting_count (key - first_setting) unset unset (omega (arith, h)))
+      (refl, λ _. refl);
   firsts = λ slot l bs e. no-first slot l e;
   copy = tt;
 }

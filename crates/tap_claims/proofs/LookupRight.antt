@@ -196,7 +196,8 @@ module _ (k : Known) (m r : Message) (due : Option ℕ) {z : Setting} {ss : List
       (accused_if (eqb (result_told r) 0 && ltb (most_asked m) (length (value_told r))) too_long)
       (is_found (result_told r) (value_told r) (fitted (most_asked m) 0 z.value)) (wrong_value known (result_told r) (value_told r))
       (edition_accused_at (some z.edition) r)
-  unfolding reply_accused command_of_number with_number command_number request_accused reply_earned length_earned data_accused lookup_accused
+  unfolding reply_accused command_of_number with_number command_number request_accused reply_earned length_earned data_accused
+      lookup_accused
       key_accused setting_accused may_find layers
   as-layers =
       let key = key_asked m in

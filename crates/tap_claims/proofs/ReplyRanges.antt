@@ -23,7 +23,8 @@ use Rattle.line.proofs.Judged.{uncobs-each, fit_length}
 use Rattle.line_claims.proofs.MessageLaws.{fields-range}
 use Rattle.supervisor.specs.Number.{top_set}
 use Rattle.supervisor.specs.State.{State}
-use Rattle.responder.specs.Requests.{Verdict, failure, good, Reply, verdict, tested_where, tested, failure_reply, failure_sequence, reply_of}
+use Rattle.responder.specs.Requests.{Verdict, failure, good, Reply, verdict, tested_where, tested, failure_reply, failure_sequence}
+use Rattle.responder.specs.Requests.{reply_of}
 use Rattle.responder.specs.Requests.{version_served, known, length_allowed, carry_out, ReplyContent}
 use Rattle.supervisor_claims.specs.Replies.{reply_by}
 use Rattle.tap.specs.Earned.{earned}

@@ -97,7 +97,8 @@ answers_in come quiet unmarked (suc b ∷ w) =
     answers_in (more_received come (suc b)) (nothing_come come || quiet) (nothing_come come || unmarked) w
 
 only-answers : (ts : List Tick) → Each EndsNone ts → (a come : Option (List ℕ)) (quiet unmarked : Bool)
-    → happenings (record { towards = a; from = come; quiet = quiet; unmarked = unmarked }) ts ≡ answers_in come quiet unmarked (bytes_from ts)
+    → happenings (record { towards = a; from = come; quiet = quiet; unmarked = unmarked }) ts
+    ≡ answers_in come quiet unmarked (bytes_from ts)
 unfolding happenings tick tick_towards tick_from
 only-answers [] h a come quiet unmarked = refl
 only-answers (towards zero ∷ ts) h a come quiet unmarked = absurd (omega (arith, h.0))

@@ -26,7 +26,8 @@ use Rattle.responder.proofs.KeptLaws.{run_short}
 use Rattle.supervisor_claims.specs.Replies.{after_table, reply_by}
 use Rattle.supervisor_claims.proofs.calls.ReceivedClaim.{good-typed}
 use Rattle.tap.specs.Known.{Known, most_firsts, slot_by, slot_of, result_due, known_after_by, known_after}
-use Rattle.tap.specs.Accused.{accused_if, first_held, failure_accused, changed_accused, reply_earned, length_earned, data_accused, is_command}
+use Rattle.tap.specs.Accused.{accused_if, first_held, failure_accused, changed_accused, reply_earned, length_earned, data_accused}
+use Rattle.tap.specs.Accused.{is_command}
 use Rattle.tap.specs.Accused.{request_accused, request_accused_by, reply_accused}
 use Rattle.tap.specs.Tap.{first_told, told_by, told, due_of}
 use Rattle.tap_claims.proofs.Fits.{factory_told, FitsState, message_of, FitsBehind, RepliesRightly}
@@ -161,5 +162,6 @@ replies-rightly k s image form h _ b fits r = by (verdict form) refl
     by (failure reason version sequence) e f = let z : Requests.failure_reply reason version sequence ≡ r = cc in
         rw (← z) (rw (eq-eqb version version refl, first_byte reason [], eq-eqb reason reason refl), fits)
     by (good m) e f =
-        replied m (command_of_number m.command) (result_due k m.payload) (known_after k (good m)) (after_table image s (good m)) (carry_out image s m).reply
+        replied m (command_of_number m.command) (result_due k m.payload) (known_after k (good m)) (after_table image s (good m))
+        (carry_out image s m).reply
         (carried-right s fits (held-sized s h) image m (good-typed form m b e).version).1 f

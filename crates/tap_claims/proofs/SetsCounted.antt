@@ -21,7 +21,8 @@ use Rattle.responder.specs.Requests.{Verdict, failure, good, wrong_value_length}
 use Rattle.responder.proofs.CommandLaws.{number_is}
 use Rattle.supervisor_claims.specs.LastSet.{value_for, set_by, ReadBack}
 use Rattle.supervisor_claims.proofs.claims.LastSetLaws.{onto}
-use Rattle.tap.specs.Known.{SetSeen, set_seen, KeyKnown, key_unset, key_unknown, most_sets, after_set_by, after_set_answer, newest_value, Known}
+use Rattle.tap.specs.Known.{SetSeen, set_seen, KeyKnown, key_unset, key_unknown, most_sets, after_set_by, after_set_answer, newest_value}
+use Rattle.tap.specs.Known.{Known}
 use Rattle.tap.specs.Known.{key_known, with_key, known_at_start, is_taken_set, known_after_set, known_after_by, known_after, slot_of}
 use Rattle.tap.specs.Accused.{result_told, value_told, first_held, key_asked}
 use Rattle.tap.specs.Tap.{first_told, set_told, told_by, told}

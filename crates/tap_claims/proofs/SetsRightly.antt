@@ -15,7 +15,8 @@ use Rattle.supervisor.specs.Limits.{SettingsKey, highest_key, first_setting, set
 use Rattle.supervisor.specs.State.{Factory, Setting, unset, Settings, setting, with_setting, Retained}
 use Rattle.responder.specs.Requests.{Stored, wrong_value_length, store_value}
 use Rattle.supervisor_claims.proofs.claims.LastSetLaws.{onto}
-use Rattle.tap.specs.Known.{KeyKnown, key_unknown, set_seen, after_set_by, result_by, after_set_answer, Known, key_known, with_key, is_taken_set}
+use Rattle.tap.specs.Known.{KeyKnown, key_unknown, set_seen, after_set_by, result_by, after_set_answer, Known, key_known, with_key}
+use Rattle.tap.specs.Known.{is_taken_set}
 use Rattle.tap.specs.Known.{known_after_set, result_due}
 use Rattle.tap.specs.Accused.{set_accused_by}
 use Rattle.tap_claims.proofs.Fits.{Fits}

@@ -16,7 +16,7 @@ pub const TOO_LONG: u64 = 9;
 pub const REFUSED: u64 = 12;
 
 // More lines than any input has.
-pub const MOST_LINES: u64 = u64::MAX;
+pub const MOST_LINES: u64 = 1000000;
 
 // A line longer than this is taken in pieces.
 pub const LINE_ROOM: usize = 128;

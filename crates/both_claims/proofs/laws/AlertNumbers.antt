@@ -33,7 +33,8 @@ requests-append [] ns = refl
 requests-append (m ∷ ms) ns =
     cond-by
     (λ (xs : List Message). cond (is_alert_request m) (m ∷ alert_requests (ms ++ ns)) (alert_requests (ms ++ ns)) ≡ xs ++ alert_requests ns)
-    (is_alert_request m) (m ∷ alert_requests ms) (alert_requests ms) (λ e. rw (e, requests-append ms ns)) (λ e. rw (e, requests-append ms ns))
+    (is_alert_request m) (m ∷ alert_requests ms) (alert_requests ms) (λ e. rw (e, requests-append ms ns))
+    (λ e. rw (e, requests-append ms ns))
 
 pub requests-each : (P : Message → Type 0) (ms : List Message) → Each P ms → Each P (alert_requests ms)
 unfolding alert_requests
@@ -134,7 +135,8 @@ module _ (x : State) (us : List Taken) (heard : List Message) (q : Numbered x us
         }
 
   frame-numbered : (f : List ℕ) {y : State} {new : List Taken} → Does x f y new
-      → Each (λ (m : Message). drops_by (tested m) ≡ false) (good_of (judge f)) → Pairs Ordered (alert_requests (heard ++ good_of (judge f)))
+      → Each (λ (m : Message). drops_by (tested m) ≡ false) (good_of (judge f))
+      → Pairs Ordered (alert_requests (heard ++ good_of (judge f)))
       → Numbered y (us ++ new) (heard ++ good_of (judge f))
   frame-numbered f (leaves e w n) keeps order =
       rw (n, append-nil)

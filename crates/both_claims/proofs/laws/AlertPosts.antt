@@ -112,10 +112,12 @@ module _ (x : State) where
       cond-by P (ltb longest_alert (length text)) _ _ (λ _. refl) (λ _.
       cond-by P (ltb (length x.waiting) most_alerts) _ _ (λ _. posted-action action text low e) (λ _. refl)))
 
-  options-add : (o : ℕ) → HasActions (alerts_added (Supervisor.set_options o) (meant x (Supervisor.local (Supervisor.set_options o))).answer)
+  options-add : (o : ℕ)
+      → HasActions (alerts_added (Supervisor.set_options o) (meant x (Supervisor.local (Supervisor.set_options o))).answer)
   unfolding meant Local.set_options with_actions
   options-add o =
-      cond-by (λ (d : Local.Done). HasActions (alerts_added (Supervisor.set_options o) (done_means x d).answer)) (Local.options_allowed o) _ _
+      cond-by (λ (d : Local.Done). HasActions (alerts_added (Supervisor.set_options o) (done_means x d).answer)) (Local.options_allowed o)
+      _ _
       (λ _. refl) (λ _. refl)
 
   local-adds : (c : LocalCall) → Supervisor.Typed (Supervisor.local c) → HasActions (alerts_added c (meant x (Supervisor.local c)).answer)

@@ -19,7 +19,8 @@ use Rattle.requester.specs.Requester
 use Rattle.requester.specs.Requester.{Handed, Heard, ground, other, answer, settle, MainResult, main_with_received}
 use Rattle.requester.specs.Calls.{handed_report_of}
 use Rattle.requester_claims.specs.Histories as Main
-use Rattle.requester_claims.specs.Histories.{MainMeans, main_means, put_means, main_done_means, main_meant, main_meant_made, main_enough, MainCall}
+use Rattle.requester_claims.specs.Histories.{MainMeans, main_means, put_means, main_done_means, main_meant, main_meant_made, main_enough}
+use Rattle.requester_claims.specs.Histories.{MainCall}
 use Rattle.requester_claims.specs.Histories.{MainMade, main_made}
 use Rattle.requester_claims.specs.Numbers.{Frame, is_start, NoMainStart}
 use Rattle.requester_claims.proofs.Numbers.{frames_of, Goes, stays, takes, call-goes}

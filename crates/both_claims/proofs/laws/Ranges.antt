@@ -13,12 +13,14 @@ use Rattle.octets.proofs.Conditions.{cond-by}
 use Rattle.line.specs.Limits.{longest_data}
 use Rattle.line.specs.Message.{InRange}
 use Rattle.requester.specs.Limits.{last_number}
-use Rattle.requester.specs.State.{Request, RecoveryStep, fetch, acknowledge, alert, MainState, main_fresh, step_request, is_some, outstanding}
+use Rattle.requester.specs.State.{Request, RecoveryStep, fetch, acknowledge, alert, MainState, main_fresh, step_request, is_some}
+use Rattle.requester.specs.State.{outstanding}
 use Rattle.requester.specs.State.{outstanding_of, request_frame}
 use Rattle.requester.specs.Requester
 use Rattle.requester.specs.Requester.{stays_out}
 use Rattle.requester_claims.specs.Histories as Main
-use Rattle.requester_claims.specs.Histories.{MainMeans, main_means, put_means, main_done_means, main_meant, main_meant_made, main_enough, MainCall}
+use Rattle.requester_claims.specs.Histories.{MainMeans, main_means, put_means, main_done_means, main_meant, main_meant_made, main_enough}
+use Rattle.requester_claims.specs.Histories.{MainCall}
 use Rattle.requester_claims.specs.Histories.{MainMade}
 use Rattle.requester_claims.specs.Numbers.{Frame, frames_put_out}
 use Rattle.requester_claims.proofs.Numbers.{frames_of, frames-put, some_bytes}

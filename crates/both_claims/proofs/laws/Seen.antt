@@ -71,7 +71,8 @@ unfolding ends_after seen_after
 seen-after e both (Ends.main m) typed = rw ((MainHistory.one_call e.main m both.main).state, main-log e both m)
 seen-after e both (Ends.supervisor m) typed = rw (SupervisorHistory.one_call e.supervisor m both.supervisor typed).leaves.0
 
-pub seen_all_lem : (e : Ends.Ends) → Both e → (ts : List Ends.EndCall) → Each EndCallTyped ts → seen (ends_after_all e ts) ≡ seen_all (seen e) ts
+pub seen_all_lem : (e : Ends.Ends) → Both e → (ts : List Ends.EndCall) → Each EndCallTyped ts → seen (ends_after_all e ts)
+    ≡ seen_all (seen e) ts
 unfolding ends_after_all seen_all
 seen_all_lem e both [] typed = refl
 seen_all_lem e both (t ∷ ts) typed =

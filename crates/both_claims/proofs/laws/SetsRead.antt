@@ -62,7 +62,8 @@ step-no-set k fetch = refl
 step-no-set k acknowledge = refl
 step-no-set k alert = refl
 
-outstanding-no-set : (k : ℕ) (t : Option RecoveryStep) (o : Option Request) → has_value k o ≡ false → has_value k (outstanding_of t o) ≡ false
+outstanding-no-set : (k : ℕ) (t : Option RecoveryStep) (o : Option Request) → has_value k o ≡ false → has_value k (outstanding_of t o)
+    ≡ false
 outstanding-no-set k none o h = h
 outstanding-no-set k (some t) o h = step-no-set k t
 

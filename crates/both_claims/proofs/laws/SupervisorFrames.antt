@@ -10,7 +10,8 @@ use Rattle.supervisor.specs.Local
 use Rattle.supervisor_claims.specs.View.{factory_of}
 use Rattle.supervisor_claims.specs.Histories
 use Rattle.supervisor_claims.specs.Histories.{LocalCall, Call, Made, done_means, meant, enough}
-use Rattle.supervisor_claims.specs.FrameHistory.{piece_read, is_accepted_start, bytes_received_by, starts_anew, frames_closed_by, frames_carried}
+use Rattle.supervisor_claims.specs.FrameHistory.{piece_read, is_accepted_start, bytes_received_by, starts_anew, frames_closed_by}
+use Rattle.supervisor_claims.specs.FrameHistory.{frames_carried}
 use Rattle.supervisor_claims.specs.FrameHistory.{carried_out, carried_call, carried_made}
 pub use Rattle.supervisor_claims.proofs.claims.StaysLaws.{frames-none}
 use Rattle.both_claims.specs.Ends.{image_lent}

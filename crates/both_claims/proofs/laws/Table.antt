@@ -100,7 +100,8 @@ pub record Replied (image : List ℕ) (s : State) (v : Verdict) (r : Message) : 
   pub reply : reply_to_request image s request ≡ some r
   pub sequence : r.sequence ≡ top_set request.sequence
 
-pub replied : (image : List ℕ) (s : State) (v : Verdict) (r : Message) → reply_message (reply_by image s v) ≡ some r → (r.command ≡ 0x02 → ⊥)
+pub replied : (image : List ℕ) (s : State) (v : Verdict) (r : Message) → reply_message (reply_by image s v) ≡ some r
+    → (r.command ≡ 0x02 → ⊥)
     → Replied image s v r
 unfolding reply_by failure_reply
 replied image s (failure reason version sequence) r e h = absurd (h (cc))

@@ -1,13 +1,10 @@
 -- `clear` meets its contract. The loop's invariant: the first i bytes of the run are zeros.
 -- Assumes nothing.
-use Prim.Native.Nat.{◌-◌, ◌≤◌}
 use mathlib.Core.Path.{◌≡◌, sym}
 use borrow.Author.Rules.{rules}
 use native.Mathlib.Omega.{arith}
-use lib.ListN.{length}
-use Rattle.octets.specs.Bytes.{overlay}
 use Rattle.octets.proofs.Overlay.{overlay-none}
-use Rattle.octets.proofs.Zeros.{zeros, cleared_more, cleared-fits, cleared-not}
+use Rattle.octets.proofs.Zeros.{cleared_more, cleared-fits, cleared-not}
 use Rattle.octets.proofs.clear.Goals as goal
 
 pub returns-then-s-at : goal.returns-then-s-at

@@ -1,13 +1,10 @@
 -- `clear` meets its contract. The loop's invariant: the first i bytes of the run are zeros.
 -- Assumes nothing.
 use Prim.Native.Nat.{◌-◌, ◌≤◌}
-use mathlib.Core.Path.{◌≡◌, sym}
-use borrow.Author.Rules.{rules}
-use native.Mathlib.Omega.{arith}
+use mathlib.Core.Path.{◌≡◌}
 use lib.ListN.{length}
 use Rattle.octets.specs.Bytes.{overlay}
-use Rattle.octets.proofs.Overlay.{overlay-none}
-use Rattle.octets.proofs.Zeros.{zeros, cleared_more, cleared-fits, cleared-not}
+use Rattle.octets.proofs.Zeros.{zeros}
 use Rattle.octets.proofs.clear.Given as goal
 
 abbrev pub invariant-loop-i : goal.invariant-loop-i

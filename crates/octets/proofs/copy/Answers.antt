@@ -1,11 +1,8 @@
 -- `copy` meets its contract. The loop's invariant: the first i bytes of the run are put.
 -- Assumes nothing.
-use Prim.Native.Nat.{◌-◌, ◌≤◌}
 use mathlib.Core.Path.{◌≡◌, sym}
 use borrow.Author.Rules.{rules}
 use native.Mathlib.Omega.{arith}
-use lib.ListN.{length}
-use Rattle.octets.specs.Bytes.{run, overlay}
 use Rattle.octets.proofs.Overlay.{overlay-none, overlay-run-more, copied-fits, copied-not-src, copied-not-dst}
 use Rattle.octets.proofs.copy.Goals as goal
 

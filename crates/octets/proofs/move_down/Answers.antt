@@ -1,11 +1,8 @@
 -- `move_down` meets its contract. The loop's invariant: the first i bytes of the run are put, and those still to be read are as they were.
 -- Assumes nothing.
-use Prim.Native.Nat.{◌-◌, ◌≤◌}
 use mathlib.Core.Path.{◌≡◌, sym}
 use borrow.Author.Rules.{rules}
 use native.Mathlib.Omega.{arith}
-use lib.ListN.{length}
-use Rattle.octets.specs.Bytes.{run, overlay}
 use Rattle.octets.proofs.Overlay.{overlay-none, overlay-down-more, moved_down-fits, moved_down-not, moved_down-up}
 use Rattle.octets.proofs.move_down.Goals as goal
 

@@ -1,12 +1,9 @@
 -- `move_down` meets its contract. The loop's invariant: the first i bytes of the run are put, and those still to be read are as they were.
 -- Assumes nothing.
 use Prim.Native.Nat.{◌-◌, ◌≤◌}
-use mathlib.Core.Path.{◌≡◌, sym}
-use borrow.Author.Rules.{rules}
-use native.Mathlib.Omega.{arith}
+use mathlib.Core.Path.{◌≡◌}
 use lib.ListN.{length}
 use Rattle.octets.specs.Bytes.{run, overlay}
-use Rattle.octets.proofs.Overlay.{overlay-none, overlay-down-more, moved_down-fits, moved_down-not, moved_down-up}
 use Rattle.octets.proofs.move_down.Given as goal
 
 abbrev pub invariant-loop-i : goal.invariant-loop-i

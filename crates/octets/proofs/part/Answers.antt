@@ -1,7 +1,6 @@
 -- `octets::part` meets its contract.
 -- Assumes nothing.
 use native.Mathlib.Omega.{arith}
-use borrow.Author.Rules.{rules}
 use Rattle.octets.proofs.Parts.{part-past, part-short, part-whole, place-past, place-there}
 use Rattle.octets.proofs.part.Goals as goal
 

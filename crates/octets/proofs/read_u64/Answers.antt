@@ -1,6 +1,5 @@
 -- `read_u64` meets its contract: its two halves are joined.
 -- Assumes nothing.
-use borrow.Author.Rules.{rules}
 use Rattle.octets.proofs.Numbers.{number-none, number-join}
 use Rattle.octets.proofs.read_u64.Goals as goal
 

@@ -1,6 +1,5 @@
 -- `read_u8` meets its contract: of one byte the number is the byte.
 -- Assumes nothing.
-use borrow.Author.Rules.{rules}
 use Rattle.octets.proofs.Numbers.{number-none, number-one}
 use Rattle.octets.proofs.read_u8.Goals as goal
 

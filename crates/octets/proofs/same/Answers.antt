@@ -1,11 +1,9 @@
 -- `same` meets its contract. The loop's invariant: the first i bytes of the two runs are equal.
 -- Assumes nothing.
-use Prim.Native.Nat.{ℕ, ◌+◌, ◌-◌, ◌≤◌, ◌<◌}
-use mathlib.Core.Path.{◌≡◌, sym}
+use mathlib.Core.Path.{sym}
 use borrow.Author.Count.{below_more}
 use borrow.Author.Rules.{rules}
 use native.Mathlib.Omega.{arith}
-use lib.ListN.{get_or}
 use Rattle.octets.proofs.Equal.{same_run-bytes, same_run-differ, same_run-short-left, same_run-short-right}
 use Rattle.octets.proofs.same.Goals as goal
 

@@ -35,7 +35,8 @@ returns-then-last_one_after_full c =
     let r =
     stop-last c.args.form.now c.args.out.now iteration.out iteration.left iteration.zero iteration.n
     iteration.i iteration.invariant.2
-    c.loop-i-test.true (get_or c.args.form.now iteration.i 0) refl c.if-left-gt0.false (sym c.if-last_one_after_full.true ∙ c.last_one_after_full.ensures) in
+    c.loop-i-test.true (get_or c.args.form.now iteration.i 0) refl c.if-left-gt0.false
+    (sym c.if-last_one_after_full.true ∙ c.last_one_after_full.ensures) in
     record { value = r.0; out_after = r.1 }
 
 pub loop-i-preserved : goal.loop-i-preserved

@@ -7,7 +7,9 @@ use Rattle.probes.specs.Probes.{probe_changes, all_good, good}
 use Rattle.probes.proofs.changes_are_good.Given as goal
 
 abbrev pub invariant-loop-i : goal.invariant-loop-i
-invariant-loop-i l = (length l.indices ≡ length l.results) × (good l.length l.indices l.results ≡ all_good l.length (probe_changes (drop l.i l.indices) (drop l.i l.results)))
+invariant-loop-i l =
+    (length l.indices ≡ length l.results)
+    × (good l.length l.indices l.results ≡ all_good l.length (probe_changes (drop l.i l.indices) (drop l.i l.results)))
 
 abbrev pub decreases-loop-i : goal.decreases-loop-i
 decreases-loop-i l = length l.indices - l.i

@@ -146,7 +146,8 @@ module _ (p : Parts) (s : Sound p) (image : List ℕ) (each : Each Byte image) (
       }
 
   pub command-does : (x : Command) → Does x
-  unfolding Receive.command_leaves Receive.no_reply Requests.effect Requests.reboot Requests.power_off Requests.reply_of Requests.reply_frame
+  unfolding Receive.command_leaves Receive.no_reply Requests.effect Requests.reboot Requests.power_off Requests.reply_of
+      Requests.reply_frame
       view
   command-does Command.reboot =
       registers-changed (reboot-view p s.valid.registers) refl (asked-like p s.valid.registers Layout.reboot_offset (omega arith))

@@ -8,7 +8,8 @@ use Prim.Native.Nat.{ℕ}
 use lib.ListN.{length}
 use Rattle.octets.specs.Bytes.{Each, Byte}
 use Rattle.octets.specs.TableTests.{first_failing}
-use Rattle.supervisor.specs.State.{Settings, State, with_status, with_options, with_waiting, with_settings, with_pending, with_terminator_owed}
+use Rattle.supervisor.specs.State.{Settings, State, with_status, with_options, with_waiting, with_settings, with_pending}
+use Rattle.supervisor.specs.State.{with_terminator_owed}
 use Rattle.supervisor.specs.Calls.{Parts}
 use Rattle.saving.specs.Saving
 use Rattle.saving.specs.Saving.{SavedEntry}

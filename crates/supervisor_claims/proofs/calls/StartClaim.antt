@@ -232,4 +232,5 @@ module _ (d : List ℕ) (size : length d ≡ Layout.start_length) (p : Calls.Par
 pub start_meant : StartMeant
 unfolding Local.start
 start_meant d size p room =
-    cond-by (Starts p (Calls.start_promise d p)) (Local.bad_start (factory_of d)) _ _ (start-refused d size p room) (start-fresh d size p room)
+    cond-by (Starts p (Calls.start_promise d p)) (Local.bad_start (factory_of d)) _ _ (start-refused d size p room)
+    (start-fresh d size p room)

@@ -41,7 +41,8 @@ feed-push image p b = rw eqb-suc-zero
 
 pub step-fed : (image piece : List ℕ) (p : Parts) → let o = LineReader.read_piece p.reader piece in
     Receive.after_answer image p o.state o.answer ≡ Receive.feed_bytes image p (ListN.take (up_to piece) piece)
-unfolding LineReader.read_piece LineReader.one_byte_later up_to Receive.feed_bytes Receive.after_answer Receive.inner_after Receive.verdict_of
+unfolding LineReader.read_piece LineReader.one_byte_later up_to Receive.feed_bytes Receive.after_answer Receive.inner_after
+    Receive.verdict_of
     Receive.reader_behind Receive.sets_passphrase
 step-fed image [] p = refl
 step-fed image (zero ∷ bs) p = feed-close image p
@@ -72,7 +73,8 @@ pub step-serves : (piece s z : List ℕ) → LineReader.valid_reader s ≡ true 
     Receive.served_after z (Receive.verdict_of o.state o.answer) ≡ served_in_piece (settings_of z) (received_of s) piece
 unfolding LineReader.read_piece LineReader.one_byte_later said_in_piece Receive.verdict_of Receive.served_after
 step-serves [] s z v = refl
-step-serves (zero ∷ bs) s z v = ap (Receive.served_after z) (finished-verdict s v) ∙ verdict-served z (Requests.verdict_since (received_of s))
+step-serves (zero ∷ bs) s z v = ap (Receive.served_after z) (finished-verdict s v)
+    ∙ verdict-served z (Requests.verdict_since (received_of s))
 step-serves (suc b ∷ bs) s z v =
     rw (eqb-suc-zero, ← pushed-received s (suc b) v) (step-serves bs (LineReader.pushed s (suc b)) z (pushed-stays s (suc b) v).valid)
 

@@ -169,7 +169,8 @@ none_retained (some r) e = absurd (subst (λ b. cond b (Unit {0}) ⊥) e tt)
 -- where none is retained, an alert request takes the oldest alert that waits
 taken-reply : (image : List ℕ) (s : State) (version n : ℕ) → s.retained ≡ none
     → reply_frame (reply_of n (carry_out image s (alert_message version n)).reply) ≡ alert_reply version n (oldest s.waiting)
-unfolding carry_out command_of_number with_number command_number effect Requests.alert_asked Requests.alert_taken reply_of reply_frame alert_reply
+unfolding carry_out command_of_number with_number command_number effect Requests.alert_asked Requests.alert_taken reply_of reply_frame
+    alert_reply
 taken-reply image s version n e = rw e
 
 -- A start that is accepted, on any bytes, then any calls.

@@ -96,7 +96,8 @@ passphrase-key-is = record { lower = omega arith; upper = omega arith }
 
 passphrase-behind : (s u v : List ℕ) → Layout.settings_length ≤ length s
     → Receive.store_bytes (s ++ u) Limits.passphrase_key v
-    ≡ Receive.key_stored (Receive.store_bytes s Limits.passphrase_key v).result ((Receive.store_bytes s Limits.passphrase_key v).settings ++ u)
+    ≡ Receive.key_stored (Receive.store_bytes s Limits.passphrase_key v).result ((Receive.store_bytes s Limits.passphrase_key v).settings
+    ++ u)
 unfolding Receive.store_bytes
 passphrase-behind s u v h =
     store-behind s u v _ _ _ (omega (arith, offset-within Limits.passphrase_key passphrase-key-is)) (cleared-most Limits.passphrase_key) _

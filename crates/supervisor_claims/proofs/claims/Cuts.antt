@@ -98,10 +98,17 @@ module _ (image : List ℕ) (i : Each Byte image) (l : Lent) where
   unfolding receive_calls left outputs flatten
   pieces_whole p b [] h = (sym (none-received p b), tt)
   pieces_whole p b (u ∷ pieces) h =
-      let c : made p (receiving (flatten (u ∷ pieces))) ≡ made (made p (receiving u)).parts (receiving (flatten pieces)) = cut-made p b u (flatten pieces) h.0 in
+      let c : made p (receiving (flatten (u ∷ pieces))) ≡ made (made p (receiving u)).parts (receiving (flatten pieces)) =
+      cut-made p b u (flatten pieces) h.0 in
       let k = pieces_whole (made p (receiving u)).parts (received-keeps p b u h.0).1 pieces h.1 in
-      let a : (made p (receiving (flatten (u ∷ pieces)))).answer ≡ done_where (Receive.valid_parts (lent_of l p)) = answer-so p b (u ++ flatten pieces) in
-      (k.0 ∙ ap (λ (d : Did). d.parts) (sym c), (cc (output-so p b u, a), subst (λ (d : Did). AllAnswer d.answer (outputs (made p (receiving u)).parts (receive_calls image l pieces))) (sym c) k.1))
+      let a : (made p (receiving (flatten (u ∷ pieces)))).answer ≡ done_where (Receive.valid_parts (lent_of l p)) =
+      answer-so p b (u ++ flatten pieces) in (
+        k.0 ∙ ap (λ (d : Did). d.parts) (sym c),
+        (
+          cc (output-so p b u, a),
+          subst (λ (d : Did). AllAnswer d.answer (outputs (made p (receiving u)).parts (receive_calls image l pieces))) (sym c) k.1,
+        ),
+      )
 
 -- ---- any two cuts
 

@@ -133,7 +133,8 @@ history p b l d typed h ms t =
 
 -- ---- the cut law
 
-fed-append : (image a b : List ℕ) (p : Parts) → Receive.feed_bytes image p (a ++ b) ≡ Receive.feed_bytes image (Receive.feed_bytes image p a) b
+fed-append : (image a b : List ℕ) (p : Parts) → Receive.feed_bytes image p (a ++ b)
+    ≡ Receive.feed_bytes image (Receive.feed_bytes image p a) b
 unfolding Receive.feed_bytes
 fed-append image [] b p = refl
 fed-append image (x ∷ a) b p = fed-append image a b (Receive.feed_byte image p x)

@@ -78,7 +78,8 @@ module _ (received : Option (List ℕ)) (pending : List ℕ) (terminator_owed : 
   effect-lined image m Command.inventory = record { state = refl; reply = refl }
   effect-lined image m Command.key_set = record { state = refl; reply = refl }
 
-  pub carried-lined : (image : List ℕ) (m : Message) → Lined received pending terminator_owed (carry_out image other m) (carry_out image s m)
+  pub carried-lined : (image : List ℕ) (m : Message)
+      → Lined received pending terminator_owed (carry_out image other m) (carry_out image s m)
   unfolding carry_out
   carried-lined image m = by (command_of_number m.command)
     where

@@ -25,7 +25,8 @@ use Rattle.supervisor.specs.Local.{entry_of}
 use Rattle.saving.specs.Saving
 use Rattle.saving.specs.Saving.{SavedEntry}
 use Rattle.saving.proofs.ReadLaws.{entries-each}
-use Rattle.responder.specs.Requests.{Verdict, failure, good, Carried, verdict, effect, carry_out_by, carry_out, wrong_value_length, store_value}
+use Rattle.responder.specs.Requests.{Verdict, failure, good, Carried, verdict, effect, carry_out_by, carry_out, wrong_value_length}
+use Rattle.responder.specs.Requests.{store_value}
 use Rattle.responder.specs.Requests.{after_verdict, sent}
 use Rattle.responder.specs.Commands.{Command, command_number, with_number, command_of_number}
 use Rattle.responder.specs.Requests
@@ -38,7 +39,8 @@ use Rattle.supervisor_claims.specs.Histories.{AllTyped}
 use Rattle.supervisor_claims.specs.FrameHistory.{piece_read, is_accepted_start, received_since, frames_closed_by, frame_carried}
 use Rattle.supervisor_claims.specs.FrameHistory.{frames_carried, carried_out, carried_call, carried_made, left_by_frames}
 use Rattle.supervisor_claims.specs.LastSet.{request_ahead, requests_in, requests_of, value_for, set_by, listed_if, sets_of, successful}
-use Rattle.supervisor_claims.specs.LastSet.{last_or, set_after, records_of, records_by, records_restored, Origin, since_start, since_restore}
+use Rattle.supervisor_claims.specs.LastSet.{last_or, set_after, records_of, records_by, records_restored, Origin, since_start}
+use Rattle.supervisor_claims.specs.LastSet.{since_restore}
 use Rattle.supervisor_claims.specs.LastSet.{since_more, since_call, since_made, since_all}
 use Rattle.supervisor_claims.specs.LastSet.{Has}
 use Rattle.supervisor_claims.specs.Demand2.{SetSuccessful, SuccessfulExactly}
@@ -349,7 +351,8 @@ module _ (es : List SavedEntry) where
   unfolding Saving.replaced
   replaced-long zero z = refl
   replaced-long (suc n) z =
-      length-set (Saving.replaced n es z) (Limits.first_setting + n - Limits.first_setting) (Saving.setting_in (Limits.first_setting + n) es)
+      length-set (Saving.replaced n es z) (Limits.first_setting + n - Limits.first_setting)
+      (Saving.setting_in (Limits.first_setting + n) es)
       ∙ replaced-long n z
 
   replaced-here : (n : ℕ) (z : Settings) {k : ℕ} → SettingsKey k → k < Limits.first_setting + n → length z ≡ Limits.setting_count
@@ -428,7 +431,8 @@ module _ {k : ℕ} (h : SettingsKey k) where
   call-holds w x s g (Histories.local c) =
       restore-holds h x s g (records_restored c) (meant s (Histories.local c)).state (local-settings s c)
 
-  pub made_holds : (w : List ℕ) (x : Origin) (s : State) → Holds k x s → (m : Made) → Holds k (since_made k w x m) (carried_made w s m).state
+  pub made_holds : (w : List ℕ) (x : Origin) (s : State) → Holds k x s → (m : Made)
+      → Holds k (since_made k w x m) (carried_made w s m).state
   unfolding since_made carried_made
   made_holds w x s g m = by (enough m.call m.lent)
     where
@@ -438,7 +442,8 @@ module _ {k : ℕ} (h : SettingsKey k) where
       by true = call-holds w x s g m.call
       by false = g
 
-  pub calls-hold : (ms : List Made) (w : List ℕ) (x : Origin) (s : State) → Holds k x s → Holds k (since_all k w x ms) (left_by_frames w s ms)
+  pub calls-hold : (ms : List Made) (w : List ℕ) (x : Origin) (s : State) → Holds k x s
+      → Holds k (since_all k w x ms) (left_by_frames w s ms)
   unfolding since_all left_by_frames
   calls-hold [] w x s g = g
   calls-hold (m ∷ ms) w x s g = calls-hold ms (received_since w m) (since_made k w x m) (carried_made w s m).state (made_holds w x s g m)

@@ -177,7 +177,8 @@ module _ (w : List ℕ) (p : Parts) (s : Sound p) (h : Since (split w).rest (vie
             (record { answer = refl; out = refl; leaves = unchanged; since = h })
 
     read_meets : (piece : List ℕ) → Each Byte piece → Meets (MixedCalls.line_read l piece)
-    unfolding made_mixed carried_mixed read_by_frames mixed_since line_bytes_read frames_closed_by LineReader.read_promise MixedCalls.data_of
+    unfolding made_mixed carried_mixed read_by_frames mixed_since line_bytes_read frames_closed_by LineReader.read_promise
+        MixedCalls.data_of
         messages_handed
     read_meets piece b = by (enough_of_reader l) refl
       where

@@ -87,7 +87,8 @@ unfolding whole_room
 whole_room_lem = (omega (arith, length-replicate {A = ℕ} most_pending 0), zeros-each most_pending)
 
 module _ (image : List ℕ) (each : Each Byte image) where
-  replayed-taken : (p : Parts) → Sound p → (bs : List ℕ) → Each Byte bs → (replay_bytes image p bs).taken ≡ (session image (view p) bs).taken
+  replayed-taken : (p : Parts) → Sound p → (bs : List ℕ) → Each Byte bs → (replay_bytes image p bs).taken
+      ≡ (session image (view p) bs).taken
   unfolding replay_bytes replay_byte session cycle did meant Requests.receive_stream
   replayed-taken p s [] h = refl
   replayed-taken p s (b ∷ bs) h =

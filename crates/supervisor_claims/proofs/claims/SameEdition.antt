@@ -32,7 +32,8 @@ use Rattle.supervisor_claims.specs.Histories
 use Rattle.supervisor_claims.specs.Histories.{Typed, refused, done, Did, Lent, Made, enough, made, left, did, meant_made, meant}
 use Rattle.supervisor_claims.specs.Histories.{AllTyped, start_with, receive_with, locally, found_edition}
 use Rattle.supervisor_claims.specs.FrameHistory.{received_since_all, received_since, frames_closed_by}
-use Rattle.supervisor_claims.specs.LastSet.{requests_in, requests_of, set_by, Stays, Origin, since_start, since_more, since_call, since_made}
+use Rattle.supervisor_claims.specs.LastSet.{requests_in, requests_of, set_by, Stays, Origin, since_start, since_more, since_call}
+use Rattle.supervisor_claims.specs.LastSet.{since_made}
 use Rattle.supervisor_claims.specs.LastSet.{since_all, origin, origin_behind, set_since, fitted_of, lookup_reply, ReadBack}
 use Rattle.supervisor_claims.specs.SameEdition.{SameEdition, edition_reply, WireLookup, LookedUp, lookup_calls}
 use Rattle.supervisor_claims.specs.SameEdition.{SameEditionSameList, ReadsLeave}

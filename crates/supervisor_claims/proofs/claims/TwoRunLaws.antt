@@ -333,7 +333,8 @@ frames-served ((b ∷ bs) ∷ fs) n s t p =
 module _ (es : List Saving.SavedEntry) where
   -- what is replaced lies before it
   replaced-set : (n : ℕ) → n ≤ Saving.saved_count → (z : Settings)
-      → with_setting (Saving.replaced n es z) Limits.passphrase_key unset ≡ Saving.replaced n es (with_setting z Limits.passphrase_key unset)
+      → with_setting (Saving.replaced n es z) Limits.passphrase_key unset
+      ≡ Saving.replaced n es (with_setting z Limits.passphrase_key unset)
   unfolding Saving.replaced
   replaced-set zero h z = refl
   replaced-set (suc n) h z =

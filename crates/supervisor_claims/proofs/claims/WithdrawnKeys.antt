@@ -58,7 +58,8 @@ found-value s most {k} h = rw (le-ltb Limits.highest_key k h.key.upper, ne_eqb k
 
 -- the reply's frame
 reply-found : (image : List ℕ) (s : State) (version n most : ℕ) {k : ℕ} → ReadBack k → most < 65536
-    → reply_frame (reply_of n (carry_out image s (lookup_message version n k most)).reply) ≡ lookup_reply version n most (Local.entry_of s k)
+    → reply_frame (reply_of n (carry_out image s (lookup_message version n k most)).reply)
+    ≡ lookup_reply version n most (Local.entry_of s k)
 unfolding carry_out command_of_number with_number command_number effect reply_of reply_frame lookup_reply
 reply-found image s version n most {k} h i =
     let m = h.key.upper in

@@ -70,7 +70,8 @@ module _ (d : List ℕ) (long : Layout.start_length ≤ length d) where
   unfolding Valid.all Local.any_bad tabulated
   items-bad zero h = refl
   items-bad (suc n) h =
-      rw (any-more, items-bad n (omega arith), item-bad n h) (not-or (Local.any_bad (tabulated (item_at d) n)) (Local.bad_item (item_at d n)))
+      rw (any-more, items-bad n (omega arith), item-bad n h)
+      (not-or (Local.any_bad (tabulated (item_at d) n)) (Local.bad_item (item_at d n)))
 
   pub good-bad : Valid.good_start d ≡ not (Local.bad_start (factory_of d))
   unfolding Valid.good_start Local.bad_start factory_of
@@ -81,6 +82,7 @@ module _ (d : List ℕ) (long : Layout.start_length ≤ length d) where
         length-listed (item_at d) n,
         not_more n Limits.most_items,
       )
-      (start_test (ltb Limits.most_items n) (Local.any_bad (tabulated (item_at d) n)) _ (Local.bsu_allowed (number_at 1 d Layout.bsu_offset))
+      (start_test (ltb Limits.most_items n) (Local.any_bad (tabulated (item_at d) n)) _
+      (Local.bsu_allowed (number_at 1 d Layout.bsu_offset))
       (Valid.good_items d n)
       (λ e. items-bad n (ltb-false Limits.most_items n e)))

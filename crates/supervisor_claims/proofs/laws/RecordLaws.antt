@@ -47,7 +47,8 @@ put_record r at code rest room h l =
 
 -- the state with other flags and records
 abbrev pub noted : State → Bool → Bool → Option Recorded → Option Recorded → State
-noted s reboot power-off boot-failure panic = with_panic (with_boot_failure (with_power_off (with_reboot s reboot) power-off) boot-failure) panic
+noted s reboot power-off boot-failure panic =
+    with_panic (with_boot_failure (with_power_off (with_reboot s reboot) power-off) boot-failure) panic
 
 abbrev flag : List ℕ → ℕ → Bool
 flag r at = eqb (number_at 1 r at) 1

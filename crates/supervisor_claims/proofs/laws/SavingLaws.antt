@@ -26,7 +26,8 @@ use Rattle.supervisor.specs.State.{Setting, unset}
 use Rattle.supervisor.proofs.OffsetLaws.{offset-within, longest-short, Lies, setting-lies}
 use Rattle.supervisor.specs.Valid.{SettingsValid}
 use Rattle.saving.specs.Saving
-use Rattle.saving.specs.Saving.{SavedEntry, ImageRead, fault, good, ImageStep, bad, ended, to, image_step, record_step, complete, read_image}
+use Rattle.saving.specs.Saving.{SavedEntry, ImageRead, fault, good, ImageStep, bad, ended, to, image_step, record_step, complete}
+use Rattle.saving.specs.Saving.{read_image}
 use Rattle.saving.specs.Calls as SavingCalls
 use Rattle.saving.proofs.ReadLaws.{reading-by, entries-each}
 use Rattle.saving.proofs.StoreLaws.{length-setting}
@@ -59,7 +60,8 @@ module _ (image : List ℕ) where
   unfolding record_step
   record-faults at =
       complete-faults _ _ (complete-faults _ _
-      (cond-by FaultsAt (ltb (Limits.longest_setting (Saving.saved_key_at image at)) (Saving.saved_length_at image at)) _ _ (λ _. omega arith)
+      (cond-by FaultsAt (ltb (Limits.longest_setting (Saving.saved_key_at image at)) (Saving.saved_length_at image at)) _ _
+      (λ _. omega arith)
       (λ _.
       complete-faults _ _ (complete-faults _ _
       (cond-by FaultsAt (eqb (Saving.saved_checksum_at image at) (checksum (Saving.saved_body_at image at))) _ _ (λ _. tt)

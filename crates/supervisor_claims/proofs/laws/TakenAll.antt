@@ -152,7 +152,10 @@ module _ (image : List ℕ) (s : State) (q : Quiet s) where
 
   -- a 00 behind bytes
   cycle-close : (bs : List ℕ) → cycle image (with_received s (progress_of bs)) 0
-      ≡ record { taken = replies image s (non_empty (bs ∷ [])); state = with_received (after_frames image s (non_empty (bs ∷ []))) (some []) }
+      ≡ record {
+        taken = replies image s (non_empty (bs ∷ []));
+        state = with_received (after_frames image s (non_empty (bs ∷ []))) (some []);
+      }
   unfolding cycle receive_byte frame_carried replies after_frames non_empty
   cycle-close [] = ap took_all (closed-framed image s []) ∙ quiet-taken s (some []) q
   cycle-close (b ∷ bs) = ap took_all (closed-framed image s (b ∷ bs)) ∙ rw append-nil (judged-taken (some []) (b ∷ bs))

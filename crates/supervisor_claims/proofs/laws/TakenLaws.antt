@@ -255,7 +255,11 @@ pub record Asked (p : Calls.Parts) (s : List ℕ) (c : Requests.Carried) : Type 
   pub state : view (with_registers p s) ≡ c.state
   pub reply : c.reply
       ≡ some
-      (record { version = Layout.retained_version s; command = 0x07; payload = Requests.alert_data (alert_of s Layout.retained_alert_offset) })
+      (record {
+        version = Layout.retained_version s;
+        command = 0x07;
+        payload = Requests.alert_data (alert_of s Layout.retained_alert_offset);
+      })
   pub like : Like p.registers s
 
 module _ (p : Calls.Parts) (v : Valid p) (version sequence : ℕ) (is : Requests.version_served version ≡ true) (h : sequence < 2 ^ 64) where

@@ -10,7 +10,8 @@ use Rattle.line.proofs.cobs.decoded_length.Given as goal
 
 abbrev pub invariant-loop-i : goal.invariant-loop-i
 invariant-loop-i l =
-    (l.i ≤ l.n) × (l.full + one_if l.zero ≤ l.i) × (measured (uncobs (take l.n l.s)) ≡ Counted l.s l.n l.i l.zero (decoded_of l.i l.full l.zero))
+    (l.i ≤ l.n) × (l.full + one_if l.zero ≤ l.i)
+    × (measured (uncobs (take l.n l.s)) ≡ Counted l.s l.n l.i l.zero (decoded_of l.i l.full l.zero))
 
 abbrev pub decreases-loop-i : goal.decreases-loop-i
 decreases-loop-i l = l.n - l.i

@@ -8,7 +8,8 @@ use Rattle.line.proofs.cobs.put_codes.Given as goal
 
 abbrev pub invariant-loop-k : goal.invariant-loop-k
 invariant-loop-k l =
-    (l.k ≤ l.n - l.i) × (length l.out ≡ length l.initial.out) × (run l.i l.k l.s ≡ replicate l.k 0) × (l.out ≡ overlay l.o (replicate l.k 1) l.initial.out)
+    (l.k ≤ l.n - l.i) × (length l.out ≡ length l.initial.out) × (run l.i l.k l.s ≡ replicate l.k 0)
+    × (l.out ≡ overlay l.o (replicate l.k 1) l.initial.out)
 
 abbrev pub decreases-loop-k : goal.decreases-loop-k
 decreases-loop-k l = l.n - l.i - l.k

@@ -18,7 +18,11 @@ copy_run-taken-requires c =
 
 pub overflow_cast-taken : goal.overflow_cast-taken
 overflow_cast-taken c =
-    omega (arith, (let most-here : c.copy_run-taken.result ≤ length c.args.piece.now = omega (arith, c.copy_run-taken.ensures.0, ahead-most c.args.piece.now) in most-here))
+    omega (
+      arith,
+      (let most-here : c.copy_run-taken.result ≤ length c.args.piece.now =
+          omega (arith, c.copy_run-taken.ensures.0, ahead-most c.args.piece.now) in most-here),
+    )
 
 pub returns-then-taken-eq0 : goal.returns-then-taken-eq0
 unfolding pushed_all
@@ -28,17 +32,30 @@ returns-then-taken-eq0 c =
 
 pub overflow_add-have-2 : goal.overflow_add-have-2
 overflow_add-have-2 c =
-    omega (arith, (let most-here : c.copy_run-taken.result ≤ length c.args.piece.now = omega (arith, c.copy_run-taken.ensures.0, ahead-most c.args.piece.now) in most-here))
+    omega (
+      arith,
+      (let most-here : c.copy_run-taken.result ≤ length c.args.piece.now =
+          omega (arith, c.copy_run-taken.ensures.0, ahead-most c.args.piece.now) in most-here),
+    )
 
 pub set_count-requires : goal.set_count-requires
 set_count-requires c =
-    record { in_bounds = search rules; n_le_overlong = omega (arith, (let most-here : c.copy_run-taken.result ≤ length c.args.piece.now = omega (arith, c.copy_run-taken.ensures.0, ahead-most c.args.piece.now) in most-here)) }
+    record {
+      in_bounds = search rules;
+      n_le_overlong =
+          omega (
+            arith,
+            (let most-here : c.copy_run-taken.result ≤ length c.args.piece.now =
+                omega (arith, c.copy_run-taken.ensures.0, ahead-most c.args.piece.now) in most-here),
+          );
+    }
 
 pub returns : goal.returns
 returns c =
     let a = c.args in
     let n = c.copy_run-taken.result in
-    let m = (let most-here : c.copy_run-taken.result ≤ length c.args.piece.now = omega (arith, c.copy_run-taken.ensures.0, ahead-most c.args.piece.now) in most-here) in
+    let m = (let most-here : c.copy_run-taken.result ≤ length c.args.piece.now =
+    omega (arith, c.copy_run-taken.ensures.0, ahead-most c.args.piece.now) in most-here) in
     let e : a.have ≡ received_count a.state.now = omega arith in
     let kept = append-put a.state.now a.piece.now n (omega arith, omega arith) (omega arith) m (omega arith) in (
       c.copy_run-taken.ensures.0,

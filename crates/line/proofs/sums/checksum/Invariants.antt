@@ -8,7 +8,8 @@ use Rattle.line.proofs.sums.checksum.Given as goal
 
 abbrev pub invariant-loop-at : goal.invariant-loop-at
 invariant-loop-at l =
-    (l.at ≤ length l.body) × (l.sums.first < 255) × (l.sums.second < 255) × (sums_of l.sums.first l.sums.second (drop l.at l.body) ≡ checksum l.body)
+    (l.at ≤ length l.body) × (l.sums.first < 255) × (l.sums.second < 255)
+    × (sums_of l.sums.first l.sums.second (drop l.at l.body) ≡ checksum l.body)
 
 abbrev pub decreases-loop-at : goal.decreases-loop-at
 decreases-loop-at l = length l.body - l.at

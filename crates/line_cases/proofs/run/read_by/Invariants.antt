@@ -6,8 +6,8 @@ use borrow.Author.Rules.{rules}
 use lib.ListN.{length}
 use Rattle.line_cases.proofs.run.read_by.Given as goal
 
-abbrev pub invariant-loop-most : goal.invariant-loop-most
-invariant-loop-most l = (l.at ≤ length l.piece) × (length l.state ≡ length l.initial.state)
+abbrev pub invariant-loop-used : goal.invariant-loop-used
+invariant-loop-used g l = (l.at ≤ length l.piece) × (length l.state ≡ length l.initial.state)
 
-abbrev pub decreases-loop-most : goal.decreases-loop-most
-decreases-loop-most l = length l.piece - l.at
+abbrev pub decreases-loop-used : goal.decreases-loop-used
+decreases-loop-used g l = length l.piece - l.at

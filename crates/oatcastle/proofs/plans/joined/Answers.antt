@@ -1,6 +1,5 @@
 -- `oatcastle::plans::joined` meets its contract. The loop's invariant: the first i rows are put.
 -- Assumes nothing.
-use Prim.Native.Nat.{◌-◌}
 use mathlib.Core.Path.{◌≡◌, refl, ap, ◌∙◌}
 use borrow.Author.Rules.{rules}
 use native.Mathlib.Omega.{arith}

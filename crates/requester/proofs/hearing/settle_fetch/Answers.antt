@@ -9,9 +9,11 @@ returns-then-head-ne-REPLY_STATUS c =
 
 pub returns-then-head-ne-STATUS_LENGTH : goal.returns-then-head-ne-STATUS_LENGTH
 returns-then-head-ne-STATUS_LENGTH c =
-    fetch-length c.args.reader.now c.args.head c.requires.reader_value c.requires.length_le_longest_data _ c.if-head-ne-REPLY_STATUS.false c.if-head-ne-STATUS_LENGTH.true
+    fetch-length c.args.reader.now c.args.head c.requires.reader_value c.requires.length_le_longest_data _ c.if-head-ne-REPLY_STATUS.false
+    c.if-head-ne-STATUS_LENGTH.true
 
 pub returns : goal.returns
 returns c =
-    fetch-status c.args.reader.now c.args.head c.requires.reader_value c.requires.length_le_longest_data _ c.if-head-ne-REPLY_STATUS.false c.if-head-ne-STATUS_LENGTH.false
+    fetch-status c.args.reader.now c.args.head c.requires.reader_value c.requires.length_le_longest_data _ c.if-head-ne-REPLY_STATUS.false
+    c.if-head-ne-STATUS_LENGTH.false
     c.message_data-data.ensures.result_value c.read_u64-status.ensures c.read_u64-options.ensures c.serve-next.ensures

@@ -23,7 +23,8 @@ unfolding tail_report
 listen-requires c =
     let t = tail-holds _ (rw c.in-Bytes.is at c.tail-tail.ensures) in
     record {
-      requester_value = valid-parts _ (record { reader = t.0; requester = passed _ _ c.requester_is_valid.ensures c.if-not-requester_is_valid.false });
+      requester_value =
+          valid-parts _ (record { reader = t.0; requester = passed _ _ c.requester_is_valid.ensures c.if-not-requester_is_valid.false });
       reader_value = t.1;
       n_le_longest_form = t.2;
     }
@@ -33,7 +34,8 @@ unfolding tail_report
 skip-requires c =
     let t = tail-holds _ (rw c.in-Longer.is at c.tail-tail.ensures) in
     record {
-      requester_value = valid-parts _ (record { reader = t.0; requester = passed _ _ c.requester_is_valid.ensures c.if-not-requester_is_valid.false });
+      requester_value =
+          valid-parts _ (record { reader = t.0; requester = passed _ _ c.requester_is_valid.ensures c.if-not-requester_is_valid.false });
       reader_value = t.1;
     }
 
@@ -41,10 +43,14 @@ pub returns-in-Bytes : goal.returns-in-Bytes
 unfolding tail_report
 returns-in-Bytes c =
     let t = tail-holds _ (rw c.in-Bytes.is at c.tail-tail.ensures) in
-    receive-received _ _ (valid-parts _ (record { reader = t.0; requester = passed _ _ c.requester_is_valid.ensures c.if-not-requester_is_valid.false })) c.listen.ensures
+    receive-received _ _
+    (valid-parts _ (record { reader = t.0; requester = passed _ _ c.requester_is_valid.ensures c.if-not-requester_is_valid.false }))
+    c.listen.ensures
 
 pub returns-in-Longer : goal.returns-in-Longer
 unfolding tail_report
 returns-in-Longer c =
     let t = tail-holds _ (rw c.in-Longer.is at c.tail-tail.ensures) in
-    receive-received _ _ (valid-parts _ (record { reader = t.0; requester = passed _ _ c.requester_is_valid.ensures c.if-not-requester_is_valid.false })) c.skip.ensures
+    receive-received _ _
+    (valid-parts _ (record { reader = t.0; requester = passed _ _ c.requester_is_valid.ensures c.if-not-requester_is_valid.false }))
+    c.skip.ensures

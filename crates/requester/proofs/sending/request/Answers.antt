@@ -59,7 +59,8 @@ returns-in-NoRoom c =
 pub returns-in-TooLong : goal.returns-in-TooLong
 unfolding write_report
 returns-in-TooLong c =
-    absurd (request-never c.args.requester.now c.args.command c.args.«data».now c.args.out.now (passed _ _ c.requester_is_valid.ensures c.if-not-requester_is_valid.false)
+    absurd (request-never c.args.requester.now c.args.command c.args.«data».now c.args.out.now
+    (passed _ _ c.requester_is_valid.ensures c.if-not-requester_is_valid.false)
     c.if-data-gt-LONGEST_DATA.false
     (sym c.is_outstanding.ensures ∙ c.if-is_outstanding.false) c.read_u64-number.ensures c.if-number-ge-LAST_NUMBER.false
     c.write-written.ensures (ap write_report c.in-TooLong.is))

@@ -17,5 +17,6 @@ returns c =
     record {
       outbox_after = c.send_none.ensures;
       registers_after =
-          overlay-one retained_offset 0 (set r flag 1) (omega (arith, l, c.requires)) ∙ rw (overlay-one flag 1 r (omega (arith, c.requires)));
+          overlay-one retained_offset 0 (set r flag 1) (omega (arith, l, c.requires))
+          ∙ rw (overlay-one flag 1 r (omega (arith, c.requires)));
     }

@@ -213,7 +213,8 @@ returns-in-9 c =
     let p = c.requires in
     let i = inner a.outbox.now a.settings.now a.registers.now in
     carried-both a.image.now a.factory.now i a.version a.number.0 a.command a.«data».now p.version_value p.factory_value
-    p.registers_value p.data_len_bound c.byte_at-reason.ensures (some Command.start-acknowledged) (rw c.in-9.is (of_number Command.start-acknowledged))
+    p.registers_value p.data_len_bound c.byte_at-reason.ensures (some Command.start-acknowledged)
+    (rw c.in-9.is (of_number Command.start-acknowledged))
     (acknowledged-by i _ _ _ c.head_to-reply.ensures c.start_acknowledged.ensures)
 
 pub returns-in-10 : goal.returns-in-10

@@ -24,9 +24,11 @@ returns-then-protocol-ne-VERSION_1 c =
 pub returns-then-input-lt-HEADER_LENGTH : goal.returns-then-input-lt-HEADER_LENGTH
 unfolding refusal_number judged_as
 returns-then-input-lt-HEADER_LENGTH c =
-    short-header _ c.if-input-eq0.false c.read_u8-protocol.ensures c.if-protocol-eq-NULL_PROTOCOL.false c.if-protocol-ne-VERSION_1.false c.if-input-lt-HEADER_LENGTH.true
+    short-header _ c.if-input-eq0.false c.read_u8-protocol.ensures c.if-protocol-eq-NULL_PROTOCOL.false c.if-protocol-ne-VERSION_1.false
+    c.if-input-lt-HEADER_LENGTH.true
 
 pub returns : goal.returns
 returns c =
     c.judge_length.ensures
-    ∙ header_read _ c.if-input-eq0.false c.read_u8-protocol.ensures c.if-protocol-eq-NULL_PROTOCOL.false c.if-protocol-ne-VERSION_1.false c.if-input-lt-HEADER_LENGTH.false
+    ∙ header_read _ c.if-input-eq0.false c.read_u8-protocol.ensures c.if-protocol-eq-NULL_PROTOCOL.false c.if-protocol-ne-VERSION_1.false
+    c.if-input-lt-HEADER_LENGTH.false

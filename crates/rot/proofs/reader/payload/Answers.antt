@@ -29,4 +29,9 @@ unfolding payload_place
 returns-else-kind-eq-ECHO_REQUEST c =
     let judged = c.judge-verdict.ensures in
     let told = c.in-Good.is in
-    let handed = c.if-kind-eq-ECHO_REQUEST.false in record { result_value = rw (c.part.ensures.result_value, c.word_at-n.ensures.0) (payload-handed _ judged told handed); ref_ptr_value = rw (offset-handed _ judged told handed) (c.part.ensures.ref_ptr_value ∙ sym (place-there _ _ (header-there _ judged told))) }
+    let handed = c.if-kind-eq-ECHO_REQUEST.false in
+    record {
+      result_value = rw (c.part.ensures.result_value, c.word_at-n.ensures.0) (payload-handed _ judged told handed);
+      ref_ptr_value
+          = rw (offset-handed _ judged told handed) (c.part.ensures.ref_ptr_value ∙ sym (place-there _ _ (header-there _ judged told)));
+    }

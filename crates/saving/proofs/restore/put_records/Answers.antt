@@ -12,7 +12,11 @@ loop-settings-init c =
 
 pub put_record-at-requires : goal.put_record-at-requires
 put_record-at-requires c =
-    record { settings_length_in_bounds = omega arith; whole_record = whole_here _ _ _ _ c.loop-settings.invariant.1 (sym c.same.ensures ∙ c.loop-settings-test.true) }
+    record {
+      settings_length_in_bounds = omega arith;
+      whole_record = whole_here _ _ _ _ c.loop-settings.invariant.1
+          (sym c.same.ensures ∙ c.loop-settings-test.true);
+    }
 
 pub loop-settings-smaller : goal.loop-settings-smaller
 loop-settings-smaller c =

@@ -26,7 +26,11 @@ returns-then-out-n c =
 
 pub write_image-requires : goal.write_image-requires
 write_image-requires c =
-    record { settings_value = sym c.settings_are_valid.ensures ∙ c.if-not-settings_are_valid.false; settings_in_bounds = omega (arith, c.image_length-n.ensures) }
+    record {
+      settings_value = sym c.settings_are_valid.ensures ∙ c.if-not-settings_are_valid.false;
+      settings_in_bounds =
+          omega (arith, c.image_length-n.ensures);
+    }
 
 pub returns : goal.returns
 unfolding save_report save_promise

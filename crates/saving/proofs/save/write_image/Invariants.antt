@@ -13,7 +13,8 @@ abbrev pub invariant-loop-i : goal.invariant-loop-i
 invariant-loop-i l =
     (l.i ≤ saved_count) × (length l.out ≡ length l.initial.out)
     × (l.at + length (saved_records_from l.settings (saved_count - l.i) (first_setting + l.i)) ≤ length l.out)
-    × (overlay l.at (saved_records_from l.settings (saved_count - l.i) (first_setting + l.i)) l.out ≡ overlay 0 (image_bytes l.settings) l.initial.out)
+    × (overlay l.at (saved_records_from l.settings (saved_count - l.i) (first_setting + l.i)) l.out
+    ≡ overlay 0 (image_bytes l.settings) l.initial.out)
 
 abbrev pub decreases-loop-i : goal.decreases-loop-i
 decreases-loop-i l = saved_count - l.i

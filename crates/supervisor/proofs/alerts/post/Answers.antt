@@ -15,7 +15,8 @@ returns-then-action-eq0 c =
 
 pub returns-then-text-gt-LONGEST_ALERT : goal.returns-then-text-gt-LONGEST_ALERT
 returns-then-text-gt-LONGEST_ALERT c =
-    post-long _ _ _ (sym c.registers_are_valid.ensures ∙ c.if-not-registers_are_valid.false) c.if-action-eq0.false c.if-text-gt-LONGEST_ALERT.true
+    post-long _ _ _ (sym c.registers_are_valid.ensures ∙ c.if-not-registers_are_valid.false)
+    c.if-action-eq0.false c.if-text-gt-LONGEST_ALERT.true
 
 pub add_alert-requires : goal.add_alert-requires
 add_alert-requires c =

@@ -16,7 +16,10 @@ pub returns-then-not-text_is_valid : goal.returns-then-not-text_is_valid
 returns-then-not-text_is_valid c =
     let l = c.loop-i in
     untrue _ (λ e.
-    false≢true (sym c.if-not-text_is_valid.true ∙ (c.text_is_valid.ensures ∙ (rw l.invariant.0 (valid-text _ _ (alert-valid _ _ (all-each _ _ e l.i c.loop-i-test.true)).size)))))
+    false≢true
+    (sym c.if-not-text_is_valid.true
+    ∙ (c.text_is_valid.ensures
+    ∙ (rw l.invariant.0 (valid-text _ _ (alert-valid _ _ (all-each _ _ e l.i c.loop-i-test.true)).size)))))
 
 pub returns-then-byte-eq0 : goal.returns-then-byte-eq0
 returns-then-byte-eq0 c =

@@ -15,7 +15,9 @@ pub returns-then-not-result_is_allowed : goal.returns-then-not-result_is_allowed
 returns-then-not-result_is_allowed c =
     let l = c.loop-i in
     untrue _ (λ e.
-    false≢true (sym c.if-not-result_is_allowed.true ∙ (c.result_is_allowed.ensures ∙ (rw (c.byte.ensures.0, l.invariant.0) (item-good _ _ (all-each _ _ e l.i c.loop-i-test.true)).result))))
+    false≢true (sym c.if-not-result_is_allowed.true
+    ∙ (c.result_is_allowed.ensures
+    ∙ (rw (c.byte.ensures.0, l.invariant.0) (item-good _ _ (all-each _ _ e l.i c.loop-i-test.true)).result))))
 
 pub returns-then-byte-gt-LONGEST_ITEM_DATA : goal.returns-then-byte-gt-LONGEST_ITEM_DATA
 returns-then-byte-gt-LONGEST_ITEM_DATA c =

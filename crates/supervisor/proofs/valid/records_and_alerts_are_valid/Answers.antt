@@ -15,12 +15,15 @@ returns-then-word-gt255 c =
 pub returns-then-not-record_is_valid : goal.returns-then-not-record_is_valid
 returns-then-not-record_is_valid c =
     untrue _ (λ e.
-    false≢true (sym c.if-not-record_is_valid.true ∙ (c.record_is_valid.ensures ∙ (valid-record _ _ _ (records-and-alerts-valid _ e).boot-failure))))
+    false≢true
+    (sym c.if-not-record_is_valid.true
+    ∙ (c.record_is_valid.ensures ∙ (valid-record _ _ _ (records-and-alerts-valid _ e).boot-failure))))
 
 pub returns-then-not-record_is_valid-2 : goal.returns-then-not-record_is_valid-2
 returns-then-not-record_is_valid-2 c =
     untrue _ (λ e.
-    false≢true (sym c.if-not-record_is_valid-2.true ∙ (c.record_is_valid-2.ensures ∙ (valid-record _ _ _ (records-and-alerts-valid _ e).panic))))
+    false≢true (sym c.if-not-record_is_valid-2.true
+    ∙ (c.record_is_valid-2.ensures ∙ (valid-record _ _ _ (records-and-alerts-valid _ e).panic))))
 
 pub returns-then-count-gt-MOST_ALERTS : goal.returns-then-count-gt-MOST_ALERTS
 returns-then-count-gt-MOST_ALERTS c =
@@ -29,7 +32,9 @@ returns-then-count-gt-MOST_ALERTS c =
 pub returns-then-not-alerts_are_valid : goal.returns-then-not-alerts_are_valid
 returns-then-not-alerts_are_valid c =
     untrue _ (λ e.
-    false≢true (sym c.if-not-alerts_are_valid.true ∙ (c.alerts_are_valid.ensures ∙ (rw c.byte-count.ensures.0 (records-and-alerts-valid _ e).alerts))))
+    false≢true
+    (sym c.if-not-alerts_are_valid.true
+    ∙ (c.alerts_are_valid.ensures ∙ (rw c.byte-count.ensures.0 (records-and-alerts-valid _ e).alerts))))
 
 pub returns-then-byte-gt2 : goal.returns-then-byte-gt2
 returns-then-byte-gt2 c =

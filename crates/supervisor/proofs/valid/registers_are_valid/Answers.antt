@@ -19,7 +19,8 @@ returns-then-long-gt3 c =
 pub returns-then-not-options_are_allowed : goal.returns-then-not-options_are_allowed
 returns-then-not-options_are_allowed c =
     untrue _ (λ e.
-    false≢true (sym c.if-not-options_are_allowed.true ∙ (c.options_are_allowed.ensures ∙ (rw c.long-2.ensures (registers-valid _ e).options))))
+    false≢true (sym c.if-not-options_are_allowed.true
+    ∙ (c.options_are_allowed.ensures ∙ (rw c.long-2.ensures (registers-valid _ e).options))))
 
 pub returns-then-byte-gt1 : goal.returns-then-byte-gt1
 returns-then-byte-gt1 c =

@@ -23,7 +23,10 @@ setting_is_valid-requires c =
 pub returns-then-not-setting_is_valid : goal.returns-then-not-setting_is_valid
 returns-then-not-setting_is_valid c =
     untrue _ (λ e.
-    false≢true (sym c.if-not-setting_is_valid.true ∙ (c.setting_is_valid.ensures ∙ (rw (c.setting_offset-at.ensures.0, c.shortest_setting-shortest.ensures, c.longest_setting.ensures.0)
+    false≢true
+    (sym c.if-not-setting_is_valid.true
+    ∙ (c.setting_is_valid.ensures
+    ∙ (rw (c.setting_offset-at.ensures.0, c.shortest_setting-shortest.ensures, c.longest_setting.ensures.0)
     (all-each _ _ e _ c.loop-i-test.true)))))
 
 pub loop-i-preserved : goal.loop-i-preserved

@@ -6,7 +6,7 @@ use lib.ListN.{length}
 use Rattle.supervisor_cases.proofs.receiving.by_bytes.Given as goal
 
 abbrev pub invariant-loop-i : goal.invariant-loop-i
-invariant-loop-i l = l.i ≤ length l.piece
+invariant-loop-i g l = l.i ≤ length l.piece
 
 abbrev pub decreases-loop-i : goal.decreases-loop-i
-decreases-loop-i l = length l.piece - l.i
+decreases-loop-i g l = length l.piece - l.i

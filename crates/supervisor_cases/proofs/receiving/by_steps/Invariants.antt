@@ -6,7 +6,7 @@ use lib.ListN.{length}
 use Rattle.supervisor_cases.proofs.receiving.by_steps.Given as goal
 
 abbrev pub invariant-loop-now : goal.invariant-loop-now
-invariant-loop-now l = l.at ≤ length l.piece
+invariant-loop-now g l = l.at ≤ length l.piece
 
 abbrev pub decreases-loop-now : goal.decreases-loop-now
-decreases-loop-now l = length l.piece - l.at
+decreases-loop-now g l = length l.piece - l.at
