@@ -108,15 +108,16 @@ def record_faults(found):
 # ---- Names of CLAIMS.md
 
 def known_names(found):
-    """Names that a document may give: of specs/, of public laws, of functions and types in Rattle, of C functions and structs, of the wrapper's
-    functions, of crates, modules and edits."""
+    """Names that a document may give: of specs/, of public laws, of functions and types in Rattle and methods that they call, of C functions and
+    structs, of the wrapper's functions, of crates, modules and edits."""
     items = [item for item in found.items() if item.public or item.module.split('.')[1] == 'specs']
     names = {name for item in items for name in [item.name, *item.inner]}
     names |= {name for item in items if item.kind == 'record' for name in re.findall(r'^ +(?:pub )?([^\s:]+) :', item.told, re.M)}
     for module, file in found.files.items():
         names |= set(module.split('.'))
         if file.path.suffix == '.rt':
-            names |= set(re.findall(r'\b(?:fn|struct|enum|const|mod) (\w+)', '\n'.join(file.bare)))
+            code = '\n'.join(file.bare)
+            names |= set(re.findall(r'\b(?:fn|struct|enum|const|mod) (\w+)', code)) | set(re.findall(r'\.(\w+)\(', code))
     names |= {path.stem for path in [*ROOT.glob('crates/*/must-fail/*.edit'), *ROOT.glob('tests/mutants/*/*.edit')]}
     names |= {name for header in ROOT.glob('include/*.h') for name in re.findall(r'\boatcastle_\w+', header.read_text())}
     names |= {name for path in ROOT.glob('bindings/rust/src/*.rs') for name in re.findall(r'\bfn (\w+)', path.read_text())}
