@@ -31,10 +31,6 @@ wrote_then {s} {xs} {t} {ys} {u} {k} a b = record {
   holds = b.holds ∙ rw a.holds (append_assoc (take k s) xs ys);
 }
 
--- what was written from the start on lies within
-pub wrote-within : {s xs t : List ℕ} {r : ℕ} → Wrote s 0 xs t r → r ≤ length t
-wrote-within {t = t} {r = r} o = omega (arith, o.ends, ap length o.holds, length-take r t)
-
 overlay-front : (s xs : List ℕ) (k : ℕ) → k ≤ length s → take (k + length xs) (overlay k xs s) ≡ take k s ++ xs
 unfolding overlay
 overlay-front s xs k h =
@@ -63,7 +59,8 @@ frame-line at [] a m h e = absurd (omega arith)
 frame-line at (b ∷ bs) a m h e = rw (append-nil, ← e, word-any a m)
 
 -- what `plain::next` found at an offset
-pub frame-found : (w : List ℕ) (at : ℕ) {n : ℕ} {p : Piece} → p ≡ Frame n → next_report p ≡ piece_at w at → NextReport.frame n ≡ piece_at w at
+pub frame-found : (w : List ℕ) (at : ℕ) {n : ℕ} {p : Piece} → p ≡ Frame n → next_report p ≡ piece_at w at → NextReport.frame n
+    ≡ piece_at w at
 unfolding next_report
 frame-found w at e f = ap next_report (sym e) ∙ f
 

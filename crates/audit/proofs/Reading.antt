@@ -37,7 +37,8 @@ read-full (Some xs) (Some ys) n room h c =
     rw c (sym (rw long at (take-append_seam (take n room) ys)))
 
 -- n bytes more were read, into the room behind the first
-pub read-more : (a b c : Option (List ℕ)) (at n : ℕ) (room part : List ℕ) → at ≤ length room → length part ≡ length room - at → n ≤ length part
+pub read-more : (a b c : Option (List ℕ)) (at n : ℕ) (room part : List ℕ) → at ≤ length room → length part ≡ length room - at
+    → n ≤ length part
     → Consumes a b (take at room) → Consumes b c (take n part) → Consumes a c (take (at + n) (put_mid at (length room - at) room part))
 read-more a b c at n room part h l m first second =
     let front = take at room in

@@ -26,7 +26,8 @@ whole_long = length-replicate {A = ℕ} most_pending 0
 
 -- what a take in a room of sufficient length does
 pub record TookAll (o room : List ℕ) : Type 0 where
-  pub whole : take_promise o room ≡ record { report = (take_everything o).report; outbox = (take_everything o).outbox; room = overlay 0 (all_pending o) room }
+  pub whole : take_promise o room
+      ≡ record { report = (take_everything o).report; outbox = (take_everything o).outbox; room = overlay 0 (all_pending o) room }
   pub short : length (all_pending o) ≤ most_pending
   pub moves : (n : ℕ) → TakeReport.moved n ≡ (take_everything o).report → n ≡ length (all_pending o)
   pub refuses : (n : ℕ) → TakeReport.refused n ≡ (take_everything o).report → 0 ≡ length (all_pending o)

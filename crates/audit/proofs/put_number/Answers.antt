@@ -12,4 +12,9 @@ put-requires c =
 pub returns : goal.returns
 returns c =
     let d = c.decimal-count.ensures in
-    let wrote = c.put.ensures in record { wrote = rw (number_put _ _ _ d.in_bounds d.len d.digits) at wrote; upper_bound = omega (arith, wrote.ends, number-length _ _ _ d.in_bounds d.len d.digits (omega arith)) }
+    let wrote = c.put.ensures in
+    record {
+      wrote = rw (number_put _ _ _ d.in_bounds d.len d.digits) at wrote;
+      upper_bound =
+          omega (arith, wrote.ends, number-length _ _ _ d.in_bounds d.len d.digits (omega arith));
+    }

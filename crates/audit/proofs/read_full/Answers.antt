@@ -19,7 +19,8 @@ returns-then-got-eq0-clause-bytes g c =
     let done = c.in_ok-got.ensures in
     let room = put_mid l.done (length l.room - l.done) l.room c.read.new.buf in
     let long : length room ≡ length c.args.room.now = search rules in
-    let first = read-more _ _ _ l.done c.in_ok-got.got l.room c.read.new.buf (omega arith) (omega arith) (omega (arith, done.bound.0)) l.invariant.2
+    let first =
+    read-more _ _ _ l.done c.in_ok-got.got l.room c.read.new.buf (omega arith) (omega arith) (omega (arith, done.bound.0)) l.invariant.2
     done.bytes.0 in
     let same : l.done + c.in_ok-got.got ≡ l.done = omega arith in
     rw long at (read-end _ _ l.done room (omega arith) (rw same at first) (done.bytes.1 c.if-got-eq0.true (omega arith)))

@@ -1,4 +1,5 @@
--- `audit::read_full` meets its contract. The loop's invariant: where the input's bytes are known, the first of them stand at the room's start.
+-- `audit::read_full` meets its contract. The loop's invariant: where the input's bytes are known, the first of them stand at the room's
+-- start.
 -- Assumes nothing.
 use Prim.Native.Nat.{◌-◌, ◌≤◌}
 use mathlib.Core.Path.{◌≡◌}

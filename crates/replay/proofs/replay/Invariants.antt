@@ -10,7 +10,8 @@ use Rattle.replay.proofs.replay.Given as goal
 abbrev pub invariant-loop-left : goal.invariant-loop-left
 invariant-loop-left g l =
     (bs : List ℕ)
-    × Replays (g.R.Read.remaining l.initial.input) (g.R.Read.remaining l.input) (g.W.Write.contents l.initial.output) (g.W.Write.contents l.output)
+    × Replays (g.R.Read.remaining l.initial.input) (g.R.Read.remaining l.input) (g.W.Write.contents l.initial.output)
+    (g.W.Write.contents l.output)
     (parts l.initial.reader l.initial.outbox l.factory l.initial.settings l.initial.registers)
     (parts l.reader l.outbox l.factory l.settings l.registers) bs
     × (18446744073709551615 ≤ length bs + l.left)

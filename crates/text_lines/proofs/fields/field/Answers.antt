@@ -7,4 +7,9 @@ use Rattle.text_lines.proofs.fields.field.Goals as goal
 pub returns : goal.returns
 returns c =
     let start = c.field_start in
-    let line = c.args.line in record { result_value = c.part.ensures.result_value ∙ (rest start.result _ ∙ start.ensures.0); ref_ptr_value = c.part.ensures.ref_ptr_value ∙ rest-place line start.result _ start.ensures.1 start.ensures.0 }
+    let line = c.args.line in
+    record {
+      result_value = c.part.ensures.result_value ∙ (rest start.result _ ∙ start.ensures.0);
+      ref_ptr_value =
+          c.part.ensures.ref_ptr_value ∙ rest-place line start.result _ start.ensures.1 start.ensures.0;
+    }

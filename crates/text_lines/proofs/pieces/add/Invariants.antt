@@ -9,7 +9,8 @@ use Rattle.text_lines.proofs.pieces.add.Given as goal
 
 abbrev pub invariant-loop-j : goal.invariant-loop-j
 invariant-loop-j l =
-    (l.j ≤ l.more) × (length l.room ≡ length l.initial.room) × (l.room ≡ overlay l.n (values (added_at l.line (take l.n l.initial.room)) l.j) l.initial.room)
+    (l.j ≤ l.more) × (length l.room ≡ length l.initial.room)
+    × (l.room ≡ overlay l.n (values (added_at l.line (take l.n l.initial.room)) l.j) l.initial.room)
 
 abbrev pub decreases-loop-j : goal.decreases-loop-j
 decreases-loop-j l = l.more - l.j
