@@ -39,11 +39,11 @@ pub applied : List Probe → List ProbeChange → List Probe
 applied l [] = l
 applied l (c ∷ cs) = applied (result_set l c.index c.result) cs
 
-pub applied-more : (l : List Probe) (is rs : List ℕ) (i : ℕ) → i < length is → i < length rs
-    → applied (result_set l (get_or is i 0) (get_or rs i 0)) (probe_changes (drop (i + 1) is) (drop (i + 1) rs))
+pub applied-more : (l : List Probe) (is rs : List ℕ) (i j : ℕ) → j ≡ i + 1 → i < length is → i < length rs
+    → applied (result_set l (get_or is i 0) (get_or rs i 0)) (probe_changes (drop j is) (drop j rs))
     ≡ applied l (probe_changes (drop i is) (drop i rs))
 unfolding applied
-applied-more l is rs i h k = ap (applied l) (sym (changes-more is rs i h k))
+applied-more l is rs i j e h k = rw e (ap (applied l) (sym (changes-more is rs i h k)))
 
 pub applied-end : (l : List Probe) (is rs : List ℕ) (i : ℕ) → length is ≤ i → l ≡ applied l (probe_changes (drop i is) (drop i rs))
 unfolding applied
