@@ -2,7 +2,6 @@
 -- Assumes nothing.
 use mathlib.Core.Path.{sym, ◌∙◌}
 use native.Mathlib.Omega.{arith}
-use borrow.Author.Rules.{rules}
 use Rattle.responder.proofs.StepLaws.{valid-step-used, went}
 use Rattle.responder.proofs.CountLaws.{refused-so, counted_none, counted-all, counted-on}
 use Rattle.responder.proofs.counting.receive_tallied.Goals as goal
