@@ -1,7 +1,6 @@
 -- `print_rows` is safe and ends: each iteration takes a row.
 -- Assumes nothing.
 use Prim.Native.Nat.{◌-◌}
-use borrow.Author.Rules.{rules}
 use Rattle.address_cases.proofs.print_rows.Given as goal
 
 abbrev pub invariant-loop-i : goal.invariant-loop-i

@@ -1,13 +1,9 @@
 -- `replay::feed` meets its contract. The loop's invariant: what was read of the bytes was replayed, and what it earned is kept.
 -- Assumes nothing.
-use mathlib.Core.Path.{◌≡◌}
-use Prim.Native.Nat.{◌-◌}
 use native.Mathlib.Omega.{arith}
 use borrow.Author.Rules.{rules}
-use lib.ListN.{length}
-use Rattle.supervisor.specs.Calls.{parts}
 use Rattle.replay.proofs.Taking.{count-short}
-use Rattle.replay.proofs.Feeding.{Feeding, feeding-start, feeding-short, feeding-end, feeding-next}
+use Rattle.replay.proofs.Feeding.{feeding-start, feeding-short, feeding-end, feeding-next}
 use Rattle.replay.proofs.feed.Goals as goal
 
 pub loop-i-init : goal.loop-i-init

@@ -2,12 +2,9 @@
 -- Assumes nothing.
 use mathlib.Core.Path.{◌≡◌}
 use Prim.Native.Nat.{◌-◌}
-use native.Mathlib.Omega.{arith}
-use borrow.Author.Rules.{rules}
 use lib.ListN.{length}
 use Rattle.supervisor.specs.Calls.{parts}
-use Rattle.replay.proofs.Taking.{count-short}
-use Rattle.replay.proofs.Feeding.{Feeding, feeding-start, feeding-short, feeding-end, feeding-next}
+use Rattle.replay.proofs.Feeding.{Feeding}
 use Rattle.replay.proofs.feed.Given as goal
 
 abbrev pub invariant-loop-i : goal.invariant-loop-i

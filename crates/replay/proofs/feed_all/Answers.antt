@@ -1,13 +1,11 @@
 -- `replay::feed_all` meets its contract.
 -- Assumes nothing.
-use mathlib.Core.Path.{◌≡◌, refl, sym}
+use mathlib.Core.Path.{refl, sym}
 use native.Mathlib.Omega.{arith}
-use borrow.Author.Rules.{rules}
-use lib.ListN.{length, take}
 use lib.Seq.{take_all, length-take-le}
 use Rattle.std.proofs.KnownBytes.{Appends-nil, Appends-trans}
 use Rattle.responder.specs.Replay.{replay_bytes}
-use Rattle.replay.proofs.Feeding.{FedOn, fed-on}
+use Rattle.replay.proofs.Feeding.{fed-on}
 use Rattle.replay.proofs.feed_all.Goals as goal
 
 pub loop-at-init : goal.loop-at-init

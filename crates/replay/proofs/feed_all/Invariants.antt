@@ -1,16 +1,12 @@
 -- `replay::feed_all` meets its contract. The loop's invariant: the bytes up to an offset were replayed; each iteration reads some.
 -- Assumes nothing.
-use mathlib.Core.Path.{◌≡◌, refl, sym}
+use mathlib.Core.Path.{◌≡◌}
 use mathlib.Core.List.{[]}
 use Prim.Native.Nat.{◌-◌, ◌≤◌}
-use native.Mathlib.Omega.{arith}
-use borrow.Author.Rules.{rules}
 use lib.ListN.{length, take}
-use lib.Seq.{take_all, length-take-le}
 use Rattle.std.specs.Io.KnownBytes.{Appends}
 use Rattle.supervisor.specs.Calls.{parts}
 use Rattle.responder.specs.Replay.{replay_bytes}
-use Rattle.replay.proofs.Feeding.{FedOn, fed-on}
 use Rattle.replay.proofs.feed_all.Given as goal
 
 abbrev pub invariant-loop-at : goal.invariant-loop-at

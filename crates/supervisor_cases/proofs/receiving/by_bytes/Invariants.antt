@@ -1,7 +1,6 @@
 -- `receiving::by_bytes` is safe and ends: each iteration takes a byte.
 -- Assumes nothing.
 use Prim.Native.Nat.{◌-◌, ◌≤◌}
-use borrow.Author.Rules.{rules}
 use lib.ListN.{length}
 use Rattle.supervisor_cases.proofs.receiving.by_bytes.Given as goal
 

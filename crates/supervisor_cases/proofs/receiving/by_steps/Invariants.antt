@@ -1,7 +1,6 @@
 -- `receiving::by_steps` is safe and ends: each iteration takes what was used.
 -- Assumes nothing.
 use Prim.Native.Nat.{◌-◌, ◌≤◌}
-use borrow.Author.Rules.{rules}
 use lib.ListN.{length}
 use Rattle.supervisor_cases.proofs.receiving.by_steps.Given as goal
 
