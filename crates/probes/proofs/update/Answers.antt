@@ -32,7 +32,8 @@ loop-i-preserved c =
     good-lengths (length c.args.list.now) c.args.indices.now c.args.results.now
     (holds c.changes_are_good.ensures c.if-not-changes_are_good.false) in
     rw c.set_result.ensures
-    (applied-more c.loop-i.list c.args.indices.now c.args.results.now c.loop-i.i _ (omega arith) (omega arith) (omega (arith, e)) ∙ c.loop-i.invariant)
+    (applied-more c.loop-i.list c.args.indices.now c.args.results.now c.loop-i.i _ (omega arith) (omega arith) (omega (arith, e))
+    ∙ c.loop-i.invariant)
 
 pub returns : goal.returns
 returns c =
