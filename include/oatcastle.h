@@ -1013,91 +1013,91 @@ uint32_t oatcastle_rot_crc(const uint8_t *bytes, oatcastle_length bytes_length,
  *
  * ---- Table by docs/firmware.py
  *                                x86-64     M4     M0   RV32  Instructions, M4          -Os     -O2
- * oatcastle_line_start              144      8      8     16                         12,451  12,451
- * oatcastle_line_read               392    544    584    480  no data                 1,223   1,019
- *                                                             4,104 bytes            89,233  89,708
- * oatcastle_line_data               136     16     32      0  no data                    43      44
- *                                                             4,104 bytes            16,479  16,480
- * oatcastle_line_tail               136      0     16      0                             26      26
- * oatcastle_line_write            4,600  4,896  5,016  4,912  no data                   882     893
- *                                                             4,104 bytes           103,882 102,699
- * oatcastle_line_checksum           216    320    352    288  no byte                    41      39
- *                                                             4,104 bytes            32,699  32,343
- * oatcastle_start                   176     56     72     64                         88,297  88,286
- * oatcastle_receive               5,080  5,704  6,232  5,936  a byte                    411     373
- *                                                             a status request        2,998   2,706
- *                                                             a set of 4,096 bytes  112,298 112,696
- *                                                             a set of key 6         17,043  16,787
- *                                                             no byte                   334     296
- *                                                             16 bytes                  721     683
- *                                                             64 bytes                1,218   1,199
- *                                                             lookup of 4,096       104,921 104,383
- *                                                             full: no byte           1,190   1,089
- *                                                             full: 16 bytes          1,579   1,476
- *                                                             full: 64 bytes          2,074   1,994
- *                                                             full: a byte            1,264   1,164
- *                                                             full: status request    3,849   3,494
- *                                                             full: lookup of 4,096 105,778 105,176
- *                                                             full: set of 4,096    113,241 113,573
- * oatcastle_collect                 472    632    688    576  a byte                     88      88
- *                                                             16 bytes                  181     181
- *                                                             64 bytes                  481     481
- * oatcastle_step                  5,144  5,848  6,464  6,224  a byte                    775     731
- *                                                             a status request        3,043   2,751
- *                                                             a set of 4,096 bytes  112,348 112,746
- *                                                             a set of key 6         17,095  16,838
- * oatcastle_clear_counters          136      8      8     16                            123     124
- * oatcastle_receive_counted       5,048  5,800  6,328  6,016  a byte                  1,252     586
- *                                                             a status request        3,646   2,734
- *                                                             a set of 4,096 bytes  112,949 112,728
- *                                                             a set of key 6         17,696  16,819
- *                                                             16 bytes                1,368     709
- *                                                             64 bytes                1,864   1,226
- *                                                             full: 16 bytes          2,224   1,503
- *                                                             full: 64 bytes          2,721   2,021
- *                                                             full: a byte            2,108   1,379
- * oatcastle_step_counted          5,160  5,936  6,552  6,304  a byte                  1,106     744
- *                                                             a status request        3,378   2,768
- *                                                             a set of 4,096 bytes  112,684 112,764
- *                                                             a set of key 6         17,429  16,854
- * oatcastle_take                    152     64     96     48  37 bytes                  306     278
- *                                                             an image block         20,760  20,731
- * oatcastle_post                    160    140    204    128  no text                   226     133
- *                                                             256 bytes               1,534   1,439
- * oatcastle_set_options             136     32    112     96                            106     105
- * oatcastle_lookup                  232    184    208    240  key 0                     471     338
- *                                                             4,096 bytes            17,929  17,801
- * oatcastle_edition                 200    144    160    192                            304     196
- * oatcastle_save                    344    416    480    384  no setting                181     179
- *                                                             8,483 bytes           118,999 118,203
- * oatcastle_restore                 296    384    464    368  no setting                160     159
- *                                                             8,483 bytes           119,011 118,224
- * oatcastle_signal                  136     92    100     64                            201     143
- * oatcastle_flags                   136     32     88     80                            116     116
- * oatcastle_boot_failure_record     184    104    216    192  none                      253     254
- *                                                             512 bytes               2,361   2,361
- * oatcastle_panic_record            184    104    216    192  none                      251     251
- *                                                             512 bytes               2,361   2,361
- * oatcastle_requester_start         160     16     16     16                         24,822  24,822
- * oatcastle_requester_request     4,584  4,944  5,128  5,008  no data                 1,211   1,016
- *                                                             4,104 bytes           124,748 123,359
- * oatcastle_requester_interrupt     200    156    212    176                            309     108
- * oatcastle_requester_send        4,632  4,920  5,080  4,976  no data                 1,283     986
- *                                                             4,104 bytes           104,281 102,789
- * oatcastle_requester_receive       456    696    768    672  37 bytes                2,198   1,603
- *                                                             4,104 bytes            89,809  89,882
- * oatcastle_requester_state         216    164    212    160                            428     118
- * oatcastle_addresses               280    160    256    160                            647     635
- * oatcastle_plan                    136     16     40     16                             30      23
- * oatcastle_probe_update            144     40     56      0  1 part                     64      64
- *                                                             64 parts                1,862   1,862
- * oatcastle_rot_read              1,168  1,252  1,300  1,312  no payload              1,869   1,796
- *                                                             512 bytes              10,356  10,284
- * oatcastle_rot_payload           1,152  1,188  1,228  1,232  512 bytes               9,993   9,911
- * oatcastle_rot_write             1,152  1,212  1,260  1,264  no payload                918     891
- *                                                             512 bytes               6,444   6,418
- * oatcastle_rot_crc               1,040  1,056  1,096  1,088  no byte                   784     785
- *                                                             512 bytes               3,739   3,739
+ * oatcastle_line_start              144      8      8     16                         12,453  12,453
+ * oatcastle_line_read               376    480    484    432  no data                 1,309   1,198
+ *                                                             4,104 bytes            90,578  89,616
+ * oatcastle_line_data               160     16     40      0  no data                    51      51
+ *                                                             4,104 bytes            16,486  16,486
+ * oatcastle_line_tail               136      0     16      0                             28      28
+ * oatcastle_line_write            4,552  4,712  4,740  4,656  no data                   819     743
+ *                                                             4,104 bytes           101,741 100,577
+ * oatcastle_line_checksum           200    280    276    272  no byte                    36      36
+ *                                                             4,104 bytes            32,871  31,794
+ * oatcastle_start                   208     32     48     80                         89,927  89,916
+ * oatcastle_receive               5,016  5,136  5,276  5,264  a byte                    514     313
+ *                                                             a status request        2,881   2,636
+ *                                                             a set of 4,096 bytes  113,449 112,359
+ *                                                             a set of key 6         16,956  16,708
+ *                                                             no byte                   296     283
+ *                                                             16 bytes                  803     786
+ *                                                             64 bytes                1,311   1,303
+ *                                                             lookup of 4,096       103,736 102,387
+ *                                                             full: no byte           1,148   1,071
+ *                                                             full: 16 bytes          1,656   1,575
+ *                                                             full: 64 bytes          2,163   2,091
+ *                                                             full: a byte            1,363   1,098
+ *                                                             full: status request    3,728   3,419
+ *                                                             full: lookup of 4,096 104,591 103,178
+ *                                                             full: set of 4,096    114,385 113,233
+ * oatcastle_collect                 440    504    532    464  a byte                    233     234
+ *                                                             16 bytes                  324     324
+ *                                                             64 bytes                  613     613
+ * oatcastle_step                  5,080  5,280  5,388  5,376  a byte                    834     815
+ *                                                             a status request        2,903   2,661
+ *                                                             a set of 4,096 bytes  113,474 112,385
+ *                                                             a set of key 6         16,981  16,736
+ * oatcastle_clear_counters          136      8      8     16                            123     123
+ * oatcastle_receive_counted       4,984  5,288  5,436  5,408  a byte                  1,604     708
+ *                                                             a status request        3,801   2,681
+ *                                                             a set of 4,096 bytes  114,370 112,403
+ *                                                             a set of key 6         17,879  16,754
+ *                                                             16 bytes                1,723     830
+ *                                                             64 bytes                2,231   1,346
+ *                                                             full: 16 bytes          2,574   1,618
+ *                                                             full: 64 bytes          3,083   2,134
+ *                                                             full: a byte            2,456   1,494
+ * oatcastle_step_counted          5,080  5,352  5,476  5,440  a byte                  1,284     828
+ *                                                             a status request        3,358   2,679
+ *                                                             a set of 4,096 bytes  113,929 112,403
+ *                                                             a set of key 6         17,437  16,754
+ * oatcastle_take                    184     48     80     32  37 bytes                  313     291
+ *                                                             an image block         21,789  21,768
+ * oatcastle_post                    184    112    152     80  no text                   244     160
+ *                                                             256 bytes               1,551   1,466
+ * oatcastle_set_options             136     48     72     64                            133     109
+ * oatcastle_lookup                  248    128    160    144  key 0                     323     212
+ *                                                             4,096 bytes            17,784  17,684
+ * oatcastle_edition                 184    128    160     80                            259     176
+ * oatcastle_save                    312    360    388    352  no setting                175     178
+ *                                                             8,483 bytes           119,398 117,116
+ * oatcastle_restore                 296    328    372    320  no setting                164     161
+ *                                                             8,483 bytes           119,444 117,203
+ * oatcastle_signal                  136     96    112     64                            203     141
+ * oatcastle_flags                   136     16     48     48                            114     113
+ * oatcastle_boot_failure_record     160     56    120     64  none                      146     147
+ *                                                             512 bytes               2,256   2,256
+ * oatcastle_panic_record            160     56    120     64  none                      144     143
+ *                                                             512 bytes               2,256   2,256
+ * oatcastle_requester_start         160     16     16     16                         24,828  24,828
+ * oatcastle_requester_request     4,536  4,720  4,804  4,704  no data                 1,133     858
+ *                                                             4,104 bytes           122,593 121,231
+ * oatcastle_requester_interrupt     184    112    136     80                            296     106
+ * oatcastle_requester_send        4,584  4,800  4,860  4,800  no data                 1,090     806
+ *                                                             4,104 bytes           102,011 100,639
+ * oatcastle_requester_receive       456    512    548    496  37 bytes                2,071   1,744
+ *                                                             4,104 bytes            90,934  89,749
+ * oatcastle_requester_state         200    128    160     80                            307     105
+ * oatcastle_addresses               296    216    256    208                            648     639
+ * oatcastle_plan                    136     16     40     16                             31      23
+ * oatcastle_probe_update            168     40     56      0  1 part                     74      75
+ *                                                             64 parts                1,872   1,871
+ * oatcastle_rot_read              1,344  1,192  1,256  1,200  no payload              7,995   7,902
+ *                                                             512 bytes              16,479  16,381
+ * oatcastle_rot_payload           1,280  1,128  1,184  1,136  512 bytes               9,168   8,983
+ * oatcastle_rot_write             1,312  1,184  1,232  1,184  no payload              3,999   3,974
+ *                                                             512 bytes               9,524   9,501
+ * oatcastle_rot_crc               1,216  1,064  1,104  1,104  no byte                 3,873   3,873
+ *                                                             512 bytes               6,826   6,827
  * ---- End of the table
  */
 
