@@ -181,7 +181,7 @@ TOP = '''# On the firmware's processor
 - **Not proved**: anything on another processor. There the same module, as its object on x86-64 shows byte for byte, is compiled by the
   same clang. No proof covers what stands between the verdict and the code:
   - clang's back end for that processor
-  - the three changes of the module's text (`cross/README.md`)
+  - the five changes of the module's text (`cross/README.md`)
   - addresses of 32 bits under lengths of 64
   - the calling convention of the C compiler
   - the firmware's memcpy, memmove and memset

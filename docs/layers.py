@@ -17,7 +17,7 @@ LEGEND = ((BLUE, 'code with proved contracts'), (GREEN, 'no code: definitions an
 # the bands from the bottom, and what each is
 BANDS = {
     'octets': 'on nothing else',
-    'line': 'on bytes alone',
+    'line': 'on bytes and refusals alone',
     'ends': 'both processors, and who reads their wire',
     'claims': 'what is proved over whole lists of calls',
     'programs': 'what is run or called',
@@ -27,10 +27,11 @@ TOGETHER = '_cases'
 # of each crate its band, its row in the band from the bottom, its first and last column, its words
 PLACES = {
     'octets': ('octets', 0, 1, 5, 'runs of bytes and little-endian numbers on lent slices'),
-    'probes': ('octets', 0, 0, 0, 'the probe list'),
+    'refusals': ('octets', 0, 0, 0, 'why a call says no'),
     'counters': ('octets', 0, 7, 7, 'the counter block'),
     'addresses': ('line', 0, 0, 0, 'the address plan'),
     'rot': ('line', 0, 1, 1, 'root-of-trust link'),
+    'probes': ('line', 0, 6, 6, 'the probe list'),
     'line': ('line', 0, 2, 5, 'checksum, COBS frames, messages, the reader and the writer'),
     'plain': ('ends', 0, 2, 2, 'a second reader'),
     'requester': ('ends', 0, 4, 4, 'main processor'),

@@ -225,7 +225,7 @@ def plants(texts):
     yield source('line/src/sums.rt', 'fn checksum_of_first(', 'fn checksum_of(')
     yield source('responder/src/requests.rt', 'numbers::REASON_DATA', 'numbers::REASON_LENGTH')
     yield source('line/src/numbers.rt', 'REASON_MAGIC: u8 = 4', 'REASON_MAGIC: u8 = 8')
-    yield source('supervisor/src/outbox.rt', 'Taken::Refused', 'Taken::Moved(0)')
+    yield source('supervisor/src/outbox.rt', 'Refusal::BadState', 'Refusal::NoRoom')
     yield 'names', texts, lambda asked: None if asked == 'responder/src/alert.rt' else receive.read(asked)
 
 

@@ -59,7 +59,7 @@ def made(text, wanted):
     for crate, calls, lines in sections(text):
         names = {call.split('::')[-1] for call in calls if (crate, call.split('::')[-1]) not in placed}
         placed |= {(crate, name) for name in names}
-        named |= {(crate, call) for call in calls}
+        named |= {(crate, re.sub(r'^[A-Z]\w*::', '', call)) for call in calls}  # a method without its type
         found = [line for other, edited, line in wanted if other == crate and names & set(edited)]
         told = [part for line in found for part in textwrap.wrap(line, WIDTH, subsequent_indent='  ', break_long_words=False, break_on_hyphens=False)]
         pieces.append('\n'.join(without_list(lines) + (['', TRIED, '', *told] if found else [])))

@@ -48,34 +48,34 @@ LEFT, LEFT_WIDE, RIGHT, RIGHT_WIDE = 58, 440, 578, 452
 RECEIVE = Box(
     'responder/src/receive.rt', BLUE, LEFT, LEFT_WIDE,
     Row('receive() takes a whole piece, step() up to one 00.'),
-    Row('are_valid(): a lent part is too short, or holds a value that is not allowed', 12, 'step', 'Outcome::Refused'),
+    Row('are_valid() of responder/src/stores.rt: a lent part is too short, or holds a value that is not allowed', 12, 'step', 'Outcome::Refused'),
     Row("It asks is_valid() of line/src/reader.rt for the reader's part."),
     Row('It asks outbox_is_valid(), factory_is_valid(), settings_are_valid() and registers_are_valid() of supervisor/src/valid.rt.'))
 READER = Box(
     'line/src/reader.rt', GREEN, RIGHT, RIGHT_WIDE,
     Row('read() takes the bytes up to a 00; append() keeps them.'),
     Row('finish_frame() looks at a frame once its 00 is there. An empty frame ends here, without a reply.'),
-    Row('finish_frame(): more than 4,140 bytes ahead of the 00', 1, 'finish_frame', 'Answer::BadForm'),
-    Row("finish_form(): a code byte runs past the frame's end, by decoded_length() of line/src/cobs.rt", 1, 'finish_form', 'Answer::BadForm'),
-    Row('finish_form(): fewer than 19 or more than 4,123 bytes', 3, 'finish_form', 'Answer::BadLength'),
+    Row('finish_frame(): more than 4,140 bytes ahead of the 00', 1, 'finish_frame', 'Failure::Form'),
+    Row("finish_form(): a code byte runs past the frame's end, by decoded_length() of line/src/cobs.rt", 1, 'finish_form', 'Failure::Form'),
+    Row('finish_form(): fewer than 19 or more than 4,123 bytes', 3, 'finish_form', 'Failure::Length'),
     Row('decode_frame() decodes in place, by decode() of line/src/cobs.rt.'),
-    Row('inspect(): another checksum, by checksum_of_first() of line/src/sums.rt', 2, 'inspect', 'Answer::BadChecksum'),
-    Row('inspect(): another magic', 4, 'inspect', 'Answer::BadMagic'))
+    Row('inspect(): another checksum, by checksum_of_first() of line/src/sums.rt', 2, 'inspect', 'Failure::Checksum'),
+    Row('inspect(): another magic', 4, 'inspect', 'Failure::Magic'))
 COLLECT = Box(
     'line/src/reader.rt', GREEN, RIGHT, RIGHT_WIDE,
     Row("Another way in: collect() takes bytes ahead of a 00 as they come, and touches the reader's part alone."),
-    Row("collect(): is_valid() says no to the reader's part", 12, 'collect', 'Collected::Refused'))
+    Row("collect(): is_valid() says no to the reader's part", 12, 'collect', 'Refusal::BadState'))
 ANSWER = Box(
     'responder/src/receive.rt', BLUE, LEFT, LEFT_WIDE,
-    Row("answer_frame() turns the reader's failure into its reason, and hands a good message on."),
+    Row('answer_frame() hands a good message on. head_and_reason() has the reason of a failure.'),
     Row("Behind a set of key 6, wipe_passphrase() of responder/src/wiping.rt clears the reader's part."))
 REQUESTS = Box(
     'responder/src/requests.rt', BLUE, LEFT, LEFT_WIDE,
-    Row('request(): is_served() says no, the version is neither 1 nor 2', 5, 'request', 'REASON_VERSION'),
-    Row('request(): the top bit of the sequence is set', 6, 'request', 'REASON_SEQUENCE'),
-    Row('request(): is_known() says no to the command', 3, 'request', 'REASON_LENGTH'),
-    Row('request(): length_is_allowed() says no to the data', 7, 'request', 'REASON_DATA'),
-    Row('serve() and carry() pick the handler of the command.'))
+    Row('respond(): is_served() says no, the version is neither 1 nor 2', 5, 'respond', 'REASON_VERSION'),
+    Row('respond(): the top bit of the sequence is set', 6, 'respond', 'REASON_SEQUENCE'),
+    Row('respond(): responder/src/commands.rt has no such command', 3, 'respond', 'REASON_LENGTH'),
+    Row('respond(): the command does not allow so many bytes of data', 7, 'respond', 'REASON_DATA'),
+    Row('serve() picks the handler of the command.'))
 HANDLERS = (
     Box('responder/src/answers.rt', BLUE, LEFT, 214, Row('send_value(), send_block() and others only reply.')),
     Box('responder/src/settings.rt', BLUE, LEFT + 226, 214, Row('set_key() stores a value of keys 3 to 6.')),
@@ -91,7 +91,7 @@ WRITER = Box(
 OUTBOX = Box(
     'supervisor/src/outbox.rt', SAND, RIGHT, RIGHT_WIDE,
     Row('take() moves what is pending, as far as the room goes.'),
-    Row("take(): the outbox is not valid", 12, 'take', 'Taken::Refused'))
+    Row("take(): the outbox is not valid", 12, 'take', 'Refusal::BadState'))
 BOXES = (RECEIVE, READER, COLLECT, ANSWER, REQUESTS, *HANDLERS, SENDING, WRITER, OUTBOX)
 
 
@@ -122,16 +122,16 @@ def named(box):
 def reasons(read):
     """What the sources decide: each reason with the file, the function and the mark of its place."""
     numbers = dict(re.findall(r'const (REASON_\w+): u8 = (\d+);', read('line/src/numbers.rt') or ''))
-    answers = body(read('responder/src/receive.rt'), 'answer_frame') or ''
-    turned = {f'Answer::{kind}': constant for kind, constant in re.findall(r'Answer::(\w+)(?:\(\w+\))? => fail\(.*?numbers::(REASON_\w+)', answers, re.S)}
+    answers = body(read('responder/src/receive.rt'), 'head_and_reason') or ''
+    turned = {f'Failure::{kind}': constant for kind, constant in re.findall(r'Failure::(\w+)(?:\(\w+\))? => \(.*?numbers::(REASON_\w+)', answers)}
     for file in ('line/src/reader.rt', *(f'responder/src/{path.name}' for path in sorted((CRATES / 'responder/src').glob('*.rt')))):
         text = read(file) or ''
         for function in re.findall(r'^(?:pub(?:\(crate\))? )?fn (\w+)', text, re.M):
             told = body(text, function) or ''
             if file == 'line/src/reader.rt':
-                for mark in re.findall(r'\bAnswer::Bad\w+', told):
+                for mark in re.findall(r'\bFailure::\w+', told):
                     yield int(numbers.get(turned.get(mark), 0)), file, function, mark
-            elif function != 'answer_frame':
+            elif function != 'head_and_reason':
                 for mark in re.findall(r'\bREASON_\w+', told):
                     yield int(numbers.get(mark, 0)), file, function, mark
 

@@ -45,7 +45,7 @@ def constants(file, known):
     """The values of a file's constants, which may name those of `limits`."""
     found = dict(known)
     for name, told in re.findall(r'^(?:pub(?:\(crate\))? )?const (\w+): \w+ = ([^;]+);', (HERE.parent / 'crates' / FILES[file]).read_text(), re.M):
-        found[name] = eval(told.replace('limits::', '').replace(' as usize', '').replace('/', '//'), {'__builtins__': {}}, found)
+        found[name] = eval(told.replace('u32::MAX', '2 ** 32 - 1').replace('limits::', '').replace(' as usize', '').replace('/', '//'), {'__builtins__': {}}, found)
     return found
 
 

@@ -1013,91 +1013,91 @@ uint32_t oatcastle_rot_crc(const uint8_t *bytes, oatcastle_length bytes_length,
  *
  * ---- Table by docs/firmware.py
  *                                x86-64     M4     M0   RV32  Instructions, M4          -Os     -O2
- * oatcastle_line_start              144      8      8     16                         12,453  12,453
- * oatcastle_line_read               376    480    484    432  no data                 1,309   1,198
- *                                                             4,104 bytes            90,578  89,616
- * oatcastle_line_data               160     16     40      0  no data                    51      51
- *                                                             4,104 bytes            16,486  16,486
- * oatcastle_line_tail               136      0     16      0                             28      28
- * oatcastle_line_write            4,552  4,712  4,740  4,656  no data                   819     743
- *                                                             4,104 bytes           101,741 100,577
- * oatcastle_line_checksum           200    280    276    272  no byte                    36      36
- *                                                             4,104 bytes            32,871  31,794
- * oatcastle_start                   208     32     48     80                         89,927  89,916
- * oatcastle_receive               5,016  5,136  5,276  5,264  a byte                    514     313
- *                                                             a status request        2,881   2,636
- *                                                             a set of 4,096 bytes  113,449 112,359
- *                                                             a set of key 6         16,956  16,708
- *                                                             no byte                   296     283
- *                                                             16 bytes                  803     786
- *                                                             64 bytes                1,311   1,303
- *                                                             lookup of 4,096       103,736 102,387
- *                                                             full: no byte           1,148   1,071
- *                                                             full: 16 bytes          1,656   1,575
- *                                                             full: 64 bytes          2,163   2,091
- *                                                             full: a byte            1,363   1,098
- *                                                             full: status request    3,728   3,419
- *                                                             full: lookup of 4,096 104,591 103,178
- *                                                             full: set of 4,096    114,385 113,233
- * oatcastle_collect                 440    504    532    464  a byte                    233     234
- *                                                             16 bytes                  324     324
- *                                                             64 bytes                  613     613
- * oatcastle_step                  5,080  5,280  5,388  5,376  a byte                    834     815
- *                                                             a status request        2,903   2,661
- *                                                             a set of 4,096 bytes  113,474 112,385
- *                                                             a set of key 6         16,981  16,736
- * oatcastle_clear_counters          136      8      8     16                            123     123
- * oatcastle_receive_counted       4,984  5,288  5,436  5,408  a byte                  1,604     708
- *                                                             a status request        3,801   2,681
- *                                                             a set of 4,096 bytes  114,370 112,403
- *                                                             a set of key 6         17,879  16,754
- *                                                             16 bytes                1,723     830
- *                                                             64 bytes                2,231   1,346
- *                                                             full: 16 bytes          2,574   1,618
- *                                                             full: 64 bytes          3,083   2,134
- *                                                             full: a byte            2,456   1,494
- * oatcastle_step_counted          5,080  5,352  5,476  5,440  a byte                  1,284     828
- *                                                             a status request        3,358   2,679
- *                                                             a set of 4,096 bytes  113,929 112,403
- *                                                             a set of key 6         17,437  16,754
- * oatcastle_take                    184     48     80     32  37 bytes                  313     291
- *                                                             an image block         21,789  21,768
- * oatcastle_post                    184    112    152     80  no text                   244     160
- *                                                             256 bytes               1,551   1,466
- * oatcastle_set_options             136     48     72     64                            133     109
- * oatcastle_lookup                  248    128    160    144  key 0                     323     212
- *                                                             4,096 bytes            17,784  17,684
- * oatcastle_edition                 184    128    160     80                            259     176
- * oatcastle_save                    312    360    388    352  no setting                175     178
- *                                                             8,483 bytes           119,398 117,116
- * oatcastle_restore                 296    328    372    320  no setting                164     161
- *                                                             8,483 bytes           119,444 117,203
- * oatcastle_signal                  136     96    112     64                            203     141
- * oatcastle_flags                   136     16     48     48                            114     113
- * oatcastle_boot_failure_record     160     56    120     64  none                      146     147
- *                                                             512 bytes               2,256   2,256
- * oatcastle_panic_record            160     56    120     64  none                      144     143
- *                                                             512 bytes               2,256   2,256
+ * oatcastle_line_start              144      8      8     16                         12,453  12,454
+ * oatcastle_line_read               408    544    580    464  no data                 1,578   1,255
+ *                                                             4,104 bytes            94,308  82,874
+ * oatcastle_line_data               176     32     40     16  no data                    81      81
+ *                                                             4,104 bytes            16,501  16,501
+ * oatcastle_line_tail               136      0     16      0                             30      31
+ * oatcastle_line_write            4,616  4,776  4,804  4,672  no data                   827     796
+ *                                                             4,104 bytes           100,886  97,806
+ * oatcastle_line_checksum           200    296    300    288  no byte                    37      36
+ *                                                             4,104 bytes            33,018  32,185
+ * oatcastle_start                   208     40     48     48                         86,719  86,708
+ * oatcastle_receive               5,224  5,256  5,308  5,120  a byte                    481     457
+ *                                                             a status request        3,233   2,845
+ *                                                             a set of 4,096 bytes  112,198 100,696
+ *                                                             a set of key 6         17,325  16,768
+ *                                                             no byte                   413     388
+ *                                                             16 bytes                1,106   1,003
+ *                                                             64 bytes                1,448   1,388
+ *                                                             lookup of 4,096       103,274  99,724
+ *                                                             full: no byte           1,234   1,208
+ *                                                             full: 16 bytes          1,928   1,824
+ *                                                             full: 64 bytes          2,268   2,209
+ *                                                             full: a byte            1,299   1,275
+ *                                                             full: status request    4,050   3,661
+ *                                                             full: lookup of 4,096 104,102 100,552
+ *                                                             full: set of 4,096    113,137 101,594
+ * oatcastle_collect                 216    208    240    128  a byte                     89      90
+ *                                                             16 bytes                  183     194
+ *                                                             64 bytes                  483     531
+ * oatcastle_step                  5,208  5,400  5,420  5,200  a byte                  1,001     894
+ *                                                             a status request        3,273   2,839
+ *                                                             a set of 4,096 bytes  112,238 100,691
+ *                                                             a set of key 6         17,368  16,766
+ * oatcastle_clear_counters          136      8      8     16                            124     123
+ * oatcastle_receive_counted       5,240  5,328  5,364  5,200  a byte                  1,581     931
+ *                                                             a status request        3,857   2,878
+ *                                                             a set of 4,096 bytes  112,819 100,728
+ *                                                             a set of key 6         17,950  16,803
+ *                                                             16 bytes                1,728   1,034
+ *                                                             64 bytes                2,070   1,419
+ *                                                             full: 16 bytes          2,549   1,854
+ *                                                             full: 64 bytes          2,891   2,241
+ *                                                             full: a byte            2,402   1,752
+ * oatcastle_step_counted          5,208  5,472  5,508  5,264  a byte                  1,451     906
+ *                                                             a status request        3,728   2,854
+ *                                                             a set of 4,096 bytes  112,693 100,707
+ *                                                             a set of key 6         17,823  16,782
+ * oatcastle_take                    192     68    104     80  37 bytes                  308     271
+ *                                                             an image block         16,669  16,633
+ * oatcastle_post                    192     84    152     96  no text                   201     201
+ *                                                             256 bytes               1,248   1,248
+ * oatcastle_set_options             136     44     80     48                            171     171
+ * oatcastle_lookup                  248    136    160    144  key 0                     473     351
+ *                                                             4,096 bytes            16,894  16,789
+ * oatcastle_edition                 200    128    136    128                            279     199
+ * oatcastle_save                    360    384    420    368  no setting                213     213
+ *                                                             8,483 bytes           102,776 101,056
+ * oatcastle_restore                 344    344    388    352  no setting                216     216
+ *                                                             8,483 bytes           102,858 101,138
+ * oatcastle_signal                  136     60     96     64                            181     181
+ * oatcastle_flags                   144     44     80     48                            181     182
+ * oatcastle_boot_failure_record     184    100    176     80  none                      381     380
+ *                                                             512 bytes               2,524   2,479
+ * oatcastle_panic_record            184    100    176     80  none                      378     378
+ *                                                             512 bytes               2,523   2,479
  * oatcastle_requester_start         160     16     16     16                         24,828  24,828
- * oatcastle_requester_request     4,536  4,720  4,804  4,704  no data                 1,133     858
- *                                                             4,104 bytes           122,593 121,231
- * oatcastle_requester_interrupt     184    112    136     80                            296     106
- * oatcastle_requester_send        4,584  4,800  4,860  4,800  no data                 1,090     806
- *                                                             4,104 bytes           102,011 100,639
- * oatcastle_requester_receive       456    512    548    496  37 bytes                2,071   1,744
- *                                                             4,104 bytes            90,934  89,749
- * oatcastle_requester_state         200    128    160     80                            307     105
- * oatcastle_addresses               296    216    256    208                            648     639
- * oatcastle_plan                    136     16     40     16                             31      23
- * oatcastle_probe_update            168     40     56      0  1 part                     74      75
- *                                                             64 parts                1,872   1,871
- * oatcastle_rot_read              1,344  1,192  1,256  1,200  no payload              7,995   7,902
- *                                                             512 bytes              16,479  16,381
- * oatcastle_rot_payload           1,280  1,128  1,184  1,136  512 bytes               9,168   8,983
- * oatcastle_rot_write             1,312  1,184  1,232  1,184  no payload              3,999   3,974
- *                                                             512 bytes               9,524   9,501
- * oatcastle_rot_crc               1,216  1,064  1,104  1,104  no byte                 3,873   3,873
- *                                                             512 bytes               6,826   6,827
+ * oatcastle_requester_request     4,568  4,800  4,876  4,736  no data                 1,064     876
+ *                                                             4,104 bytes           117,546 114,310
+ * oatcastle_requester_interrupt     136     80    184    128                            208      73
+ * oatcastle_requester_send        4,616  4,888  4,956  4,832  no data                 1,028     820
+ *                                                             4,104 bytes           101,084  97,829
+ * oatcastle_requester_receive       504    600    652    544  37 bytes                2,371   1,811
+ *                                                             4,104 bytes            94,693  83,060
+ * oatcastle_requester_state         152     88    184    144                            214      71
+ * oatcastle_addresses               184    152    248    160                            634     617
+ * oatcastle_plan                    136      8     40     16                             25      23
+ * oatcastle_probe_update            168     40     56      0  1 part                     74      74
+ *                                                             64 parts                1,379   1,379
+ * oatcastle_rot_read              1,328  1,216  1,264  1,216  no payload              8,008   7,911
+ *                                                             512 bytes              15,968  15,872
+ * oatcastle_rot_payload           1,296  1,144  1,184  1,168  512 bytes              15,923   8,983
+ * oatcastle_rot_write             1,296  1,192  1,232  1,184  no payload              4,018   3,989
+ *                                                             512 bytes               9,019   8,991
+ * oatcastle_rot_crc               1,216  1,064  1,104  1,088  no byte                 3,874   3,874
+ *                                                             512 bytes               6,828   6,828
  * ---- End of the table
  */
 

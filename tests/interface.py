@@ -211,6 +211,7 @@ def constants(*paths):
     known = {}
     for path in paths:
         for name, value in re.findall(r'const (\w+): \w+ =\s+([^;]+);', read(path)):
+            value = re.sub(r'\bu(\d+)::MAX\b', r'2 ** \1 - 1', value)
             known[name] = eval('(' + re.sub(r'\b\w+::| as \w+', '', value).replace('/', '//') + ')', {}, known)
     return known
 
@@ -233,12 +234,12 @@ def the_one(what, values):
 
 
 def arms(text):
-    """For each variant of an enum that a `match` of the text answers with numbers: the number returned, or kind and reason of an answer."""
-    found, known = {}, constants(MESSAGES, 'crates/oatcastle/src/refusals.rt', 'crates/oatcastle/src/kinds.rt')
-    for variant, number in re.findall(r'\b(\w+::\w+)(?:\(\w+\))? => (\d+|refusals::\w+),', text):
-        found.setdefault(variant, []).append(worth(number, known))
-    for variant, kind, reason in re.findall(r'\b(\w+::\w+)(?:\(\w+\))? => \{\s*(?:let \w+ = [^;]*;\s*)*\*answer = \[\s*used,\s*([A-Z]\w+),\s*(\w+)', text):
-        found.setdefault(variant, []).append((worth(kind, known), worth(reason, known)))
+    """For each variant of an enum (the inner one, or None) that a `match` of the text answers with numbers: the number, or kind and reason of an answer."""
+    found, known = {}, constants(MESSAGES, 'crates/oatcastle/src/kinds.rt')
+    for variant, number in re.findall(r'\b(\w+::\w+)(?:\(\w+\))? => (\d+),', text):
+        found.setdefault(variant, []).append(int(number))
+    for pattern, kind, reason in re.findall(r'^\s*(\S+) => (?:\{\s*(?:let \w+ = [^;]*;\s*)*)?\[\s*used,\s*([A-Z]\w+),\s*(\w+)', text, re.M):
+        found.setdefault(re.findall(r'\w+::\w+|None', pattern)[-1], []).append((worth(kind, known), worth(reason, known)))
     return found
 
 
@@ -253,23 +254,15 @@ def places(text, known):
 
 @functools.cache
 def refusals():
-    answered = arms(library(link=False))
-    named = {'DONE': ('Started::Done', 'Posted::Done', 'OptionsSet::Done', 'Interrupted::Done', 'Updated::Done', 'Restored::Done'), 'BAD_PROBE': ('Updated::Refused',),
-             'NO_ROOM': ('Written::NoRoom', 'Requested::NoRoom', 'Sent::NoRoom', 'Saved::NoRoom'),
-             'TOO_LONG': ('Written::TooLong', 'Handed::TooLong', 'Posted::TooLong', 'Requested::TooLong'), 'ALERTS_FULL': ('Posted::Full',),
-             'BAD_START': ('Started::BadData',),
-             'BAD_STATE': ('Started::Refused', 'Received::Refused', 'Answer::Refused', 'Requested::Refused', 'Interrupted::Refused', 'Sent::Refused',
-                           'Saved::Refused', 'Restored::Refused'),
-             'BAD_VALUE': ('Posted::BadAction', 'OptionsSet::BadOption'), 'NO_NUMBER': ('Requested::NoNumber', 'Interrupted::NoNumber'),
-             'PLAN_PASSES': ('Planned::Passes',), 'OUTSTANDING': ('Requested::Outstanding',)}
-    return {name: the_one(name, (n for variant in variants for n in answered[variant])) for name, variants in named.items()}
+    numbers = arms(read('crates/refusals/src/lib.rt'))
+    return {**constants('crates/oatcastle/src/answer_writing.rt'), **{snake(variant.removeprefix('Refusal::')): the_one(variant, found) for variant, found in numbers.items()}}
 
 
 def kinds():
     answered = arms(library(link=False))
     named = {'MORE': ('Answer::More', 'Outcome::More'), 'EMPTY': ('Answer::Empty', 'Outcome::Empty'), 'MESSAGE': ('Answer::Message', 'Outcome::Request'),
-             'FAILURE': ('Answer::BadForm', 'Answer::BadLength', 'Answer::BadChecksum', 'Answer::BadMagic', 'Outcome::Failure'),
-             'NOTHING': ('Handed::Nothing',), 'ANSWER': ('Handed::Answer',), 'STATUS': ('Handed::Status',), 'ALERT': ('Handed::Alert',)}
+             'FAILURE': ('Failure::Form', 'Failure::Length', 'Failure::Checksum', 'Failure::Magic', 'Outcome::Failure'),
+             'NOTHING': ('None',), 'ANSWER': ('Handed::Answer',), 'STATUS': ('Handed::Status',), 'ALERT': ('Handed::Alert',)}
     return {name: the_one(name, (said[0] for variant in variants for said in answered[variant] if isinstance(said, tuple))) for name, variants in named.items()}
 
 
@@ -285,7 +278,7 @@ def reasons():
     """The reasons that the line layer's answers and the supervisor's tests have, each under the name that the numbers of messages give it."""
     answered, known = arms(library(link=False)), constants(MESSAGES)
     tested = read('crates/responder/specs/Requests.antt')
-    found = {name: the_one(name, (reason for _, reason in answered[f'Answer::Bad{name.title()}'])) for name in ('FORM', 'CHECKSUM', 'LENGTH', 'MAGIC')}
+    found = {name: the_one(name, (reason for _, reason in answered[f'Failure::{name.title()}'])) for name in ('FORM', 'CHECKSUM', 'LENGTH', 'MAGIC')}
     for name, test in (('VERSION', r'not \(version_served m\.version\)\)'), ('SEQUENCE', r'leb top_bit m\.sequence\)'), ('DATA', r'length_allowed [^\n]*\)\)')):
         found[name] = known[the_one(name, re.findall(test + r' \(failure ([\w-]+) ', tested)).upper().replace('-', '_')]
     return {f'REASON_{name}': number for name, number in found.items()}
@@ -303,11 +296,11 @@ def image_faults():
     """The faults of an image of the settings."""
     text = read('crates/saving/src/restore.rt')
     found = {}
-    known = constants('crates/saving/src/restore.rt')
-    for test, name in re.findall(r'if ([^{]*?) \{\s*return Next::Bad\((\w+),', body(text, 'pass') + '\n' + body(text, 'pass_record')):
+    numbers = arms(body(text, 'number'))
+    for test, fault in re.findall(r'if ([^{]*?) \{\s*return Err\(\((Fault::\w+),', body(text, 'pass') + '\n' + body(text, 'pass_record')):
         if test not in FAULTS:
-            sys.exit(f'interface.py: restoring finds fault {name} where {test}; FAULTS has no name for it')
-        found.setdefault(FAULTS[test], []).append(known[name])
+            sys.exit(f'interface.py: restoring finds {fault} where {test}; FAULTS has no name for it')
+        found.setdefault(FAULTS[test], []).append(the_one(fault, numbers[fault]))
     return {f'RESTORE_{name}': the_one(name, numbers) for name, numbers in found.items()}
 
 
@@ -319,7 +312,7 @@ def root_of_trust():
              'BAD_CRC': 'BadCrc', 'BAD_TYPE': 'BadType'}
     found = {name: the_one(name, arms(text)[f'Refusal::{variant}']) for name, variant in named.items()}
     named_kinds = constants(MESSAGES, 'crates/oatcastle/src/kinds.rt')
-    kinds = {variant: named_kinds[kind] for variant, kind in re.findall(r'Answer::(\w+)(?:\(\w+\))? => \{\s*\*answer = \[\s*([A-Z]\w+),', text)}
+    kinds = {variant: named_kinds[kind] for variant, kind in re.findall(r'Answer::(\w+)(?:\(\w+\))? => \[\s*([A-Z]\w+),', text)}
     found.update({name: kinds[name.title()] for name in ('NOTHING', 'MESSAGE', 'ECHOED')})
     known = constants('crates/rot/src/limits.rt')
     found.update({'HEADER_LENGTH': known['HEADER_LENGTH'], 'LONGEST_PAYLOAD': known['LONGEST_PAYLOAD'],
@@ -372,7 +365,7 @@ SET_RESULTS = {'layout::HIGHEST_KEY < key': 'BAD_KEY', 'key < layout::FIRST_SETT
 
 def body(text, name):
     """The code of a function."""
-    return re.search(rf'\bfn {name}\b.*?\n{{\n(.*?)\n}}', text, re.S).group(1)
+    return re.search(rf'\bfn {name}\b.*?\n( *){{\n(.*?)\n\1}}', text, re.S).group(2)
 
 
 def snake(name):
@@ -391,26 +384,32 @@ def commands():
     return found
 
 
+def unfound():
+    """The results of a lookup that finds no value."""
+    numbers = arms(body(read('crates/supervisor/src/keys.rt'), 'number'))
+    return {snake(error.removeprefix('LookupError::')): the_one(error, found) for error, found in numbers.items() if error != 'LookupError::Refused'}
+
+
 def keys(known):
     """Keys, the longest value of each setting, and the results of a lookup and of a key set."""
     text = read('crates/supervisor/src/keys.rt')
-    places = {place: int(key) for key, place in re.findall(r'if key == (\d+) \{\s*return Location::Factory\(\s*layout::(\w+),', body(text, 'find'))}
+    places = {place: int(key) for key, place in re.findall(r'(\d+) => (?:\{[^}]*?)?Location::Factory\(\s*layout::(\w+),', body(text, 'find'))}
     found = {f'KEY_{name}': places[f'{place}_OFFSET'] for name, place in (('PING', 'PONG'), ('IMAGE_ID', 'IMAGE_ID'), ('INVENTORY', 'ITEM_COUNT'))}
     for i, longest in enumerate(settings(known)):
         found[f'KEY_{SETTINGS[i]}'] = known['FIRST_SETTING'] + i
         found[f'LONGEST_{SETTINGS[i]}'] = longest
     found.update({f'SHORTEST_{SETTINGS[i]}': shortest for i, shortest in enumerate(settings(known, 'shortest')) if shortest})
-    for variant, numbers in arms(body(text, 'result_number')).items():
-        if variant != 'Found::Refused':
-            found[f'LOOKUP_{snake(variant.removeprefix("Found::"))}'] = the_one(variant, numbers)
+    found['LOOKUP_VALUE'] = the_one('a lookup that finds', map(int, re.findall(r'Ok\(_\) => (\d+),', body(text, 'result_number'))))
+    found.update({f'LOOKUP_{name}': number for name, number in unfound().items()})
     text = read('crates/responder/src/settings.rt')
-    store = body(text, 'store') + '\n' + body(text, 'store_at')
-    for test, number in re.findall(r'if ([^{]*?) \{\s*return (\d+);', store):
+    store, numbers = body(text, 'store') + '\n' + body(text, 'store_at'), arms(body(text, 'number'))
+    for test, error in re.findall(r'if ([^{]*?) \{\s*return Err\((SetError::\w+)\);', store):
         if test not in SET_RESULTS:
-            sys.exit(f'interface.py: a key set answers {number} where {test}; SET_RESULTS has no name for it')
-        if found.setdefault(f'SET_{SET_RESULTS[test]}', int(number)) != int(number):
+            sys.exit(f'interface.py: a key set answers {error} where {test}; SET_RESULTS has no name for it')
+        number = the_one(error, numbers[error])
+        if found.setdefault(f'SET_{SET_RESULTS[test]}', number) != number:
             sys.exit(f'interface.py: a key set answers {number} where {test}, and another number for {SET_RESULTS[test]} elsewhere')
-    found['SET_STORED'] = the_one('a key set that stores', map(int, re.findall(r'^    (\d+)$', store, re.M)))
+    found['SET_STORED'] = the_one('a key set that stores', map(int, re.findall(r'Ok\(\(\)\) => (\d+),', body(text, 'result_byte'))))
     return found
 
 
@@ -462,10 +461,9 @@ def wrapper_wanted():
     known = constants(LINE_LIMITS, 'crates/supervisor/src/layout.rt')
     names = ('FIRST_SETTING', 'LONGEST_ITEM_DATA', 'LONGEST_IMAGE_ID', 'PONG_OFFSET', 'SETTING_EDITION_OFFSET', 'SETTING_LENGTH_OFFSET', 'SETTING_VALUE_OFFSET',
              'BOOT_FAILURE_OFFSET', 'PANIC_OFFSET', 'RECORD_CODE_OFFSET', 'RECORD_WHOLE_OFFSET', 'RECORD_KEPT_OFFSET')
-    results = re.findall(r'Found::(\w+) => write_value\(value, room, \[(\d+),', read('crates/oatcastle/src/readings.rt'))
     return {**wanted_numbers(), **{name: known[name] for name in names}, 'ALL_OPTIONS': (1 << known['HIGHEST_OPTION'] + 1) - 1,
             'MESSAGE_DATA_OFFSET': constants(LINE_LIMITS, 'crates/line/src/reader.rt')['DATA_OFFSET'],
-            **{f'NOT_FOUND_{upper(name)}': int(number) for name, number in results if name != 'Value'},
+            **{f'NOT_FOUND_{name}': number for name, number in unfound().items()},
             **{f'LONGEST_SETTINGS[{i}]': longest for i, longest in enumerate(settings(known))}}
 
 

@@ -196,8 +196,8 @@ def texts_of(folder):
 
 
 def own_names(text):
-    """The first name behind each `crate::`."""
-    yield from re.findall(r'\bcrate::(\w+)', text)
+    """The first name behind each `crate::`; definitions and proofs, which an attribute names so, are none."""
+    yield from re.findall(r'\bcrate::(?!specs::|proofs::)(\w+)', text)
     for inside in re.findall(r'\bcrate::\{((?:[^{}]|\{[^{}]*\})*)\}', text):
         yield from re.findall(r'(?:^|,)\s*(\w+)', re.sub(r'\{[^{}]*\}', '', inside))
 

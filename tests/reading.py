@@ -23,7 +23,7 @@ LISTS = {
     # the blind spots at one or two neighbouring bytes
     'checksum_claim': 'ChecksumClaim Near SameButAt AllSameOr00Ff SameOr00Ff Each Byte checksum sums',
     # the promise of the call that reads an unfinished tail's length: its own report, the tail, 12's test, and where the number of bytes stands
-    'line::reader::tail': 'tail_report Unfinished TailReport tail_promise tail_of received_of received_bytes valid_reader received_count number_at number run overlong '
+    'line::reader::tail': 'tail_report Unfinished Refusal table_number TailReport tail_promise tail_of received_of received_bytes valid_reader received_count number_at number run overlong '
                           'longest_form longest_message longest_group reader_length frame_offset',
 }
 

@@ -1,14 +1,13 @@
 -- The laws of the 48-bit carry: to add byte by byte with the carry is to add the numbers.
 -- Assumes nothing.
-use Prim.Native.Nat.{ℕ, zero, suc, ◌+◌, ◌-◌, ◌/◌, ◌%◌, ◌≤◌, ◌<◌}
-use mathlib.Core.Path.{◌≡◌, refl, ◌∙◌}
-use mathlib.Core.List.{List, ◌∷◌, ◌++◌, reverse, reverse-cons, reverse-append, reverse-reverse, append-nil}
-use native.Mathlib.Numerals.{add-one}
+use Prim.Native.Nat.{ℕ, zero, suc, ◌+◌, ◌/◌, ◌%◌, ◌<◌}
+use mathlib.Core.Path.{◌≡◌, refl, sym, ap, ◌∙◌}
+use mathlib.Core.List.{List, [], ◌∷◌, reverse-reverse}
 use native.Mathlib.Omega.{arith}
-use lib.ListN.{length, take, drop, get_or, set}
-use lib.Seq.{lt-length-set, take-suc, take-length, take-set-le, drop-cons, drop-length, drop-set-lt, get_or-set_same, append_snoc}
+use lib.ListN.{length, get_or}
 use Rattle.octets.specs.Bytes.{bytes}
-use Rattle.addresses.specs.Addresses.{address_bytes, with_carry, next_row}
+use Rattle.addresses.specs.Addresses.{address_number, address_bytes, with_carry, next_row}
+use Rattle.addresses.proofs.Number.{bytes-address}
 use Rattle.addresses.specs.Item9.{CarriedSum, NextSum}
 
 pub carried_sum : CarriedSum
@@ -23,32 +22,18 @@ pub next_sum : NextSum
 unfolding next_row address_bytes
 next_sum v stride = rw (reverse-reverse, carried_sum)
 
--- ---- one byte of a row after the other, the last first
+-- ---- of a row's six bytes
 
--- what is left to add: the first n bytes of a row, with the carry
-abbrev pub rest : ℕ → List ℕ → ℕ → List ℕ
-rest n s carry = reverse (with_carry (reverse (take n s)) carry) ++ drop n s
-
-pub rest_all : (n : ℕ) (s : List ℕ) (carry : ℕ) → length s ≡ n → next_row s carry ≡ rest n s carry
-unfolding next_row
-rest_all n s carry e = rw (← e, take-length, drop-length, append-nil)
-
-pub rest-none : (s : List ℕ) (carry : ℕ) → rest 0 s carry ≡ s
-unfolding with_carry
-rest-none s carry = refl
-
-one_less : (i : ℕ) (s : List ℕ) (carry : ℕ) → i < length s
-    → rest (i + 1) s carry ≡ rest i (set s i ((get_or s i 0 + carry) % 256)) ((get_or s i 0 + carry) / 256)
-unfolding with_carry
-one_less i s carry h =
-    let v = (get_or s i 0 + carry) % 256 in
-    let d : drop i (set s i v) ≡ v ∷ drop (suc i) s =
-    drop-cons (set s i v) i 0 (lt-length-set s i v h) ∙ rw (get_or-set_same s i v 0 h, drop-set-lt (suc i) s i v (omega arith)) in
-    rw (add-one, take-suc s i 0 h, reverse-append, take-set-le i s i v (omega arith), d, reverse-cons, append_snoc)
-
--- the last of the n bytes is added
-pub rest-less : (n : ℕ) (s : List ℕ) (carry : ℕ) → 0 < n → n ≤ length s
-    → rest n s carry ≡ rest (n - 1) (set s (n - 1) ((get_or s (n - 1) 0 + carry) % 256)) ((get_or s (n - 1) 0 + carry) / 256)
-rest-less n s carry h l =
-    let e : n - 1 + 1 ≡ n = omega arith in
-    rw e at (one_less (n - 1) s carry (omega arith))
+pub next-six : (s : List ℕ) (stride : ℕ) → length s ≡ 6 → ((i : ℕ) → get_or s i 0 < 256)
+    → (address_number s + stride) / 1099511627776 % 256 ∷ (address_number s + stride) / 4294967296 % 256
+    ∷ (address_number s + stride) / 16777216 % 256 ∷ (address_number s + stride) / 65536 % 256
+    ∷ (address_number s + stride) / 256 % 256 ∷ (address_number s + stride) % 256 ∷ []
+    ≡ next_row s stride
+unfolding bytes address_bytes
+next-six s stride e h =
+    let v = address_number s + stride in
+    let e1 : v / 1099511627776 ≡ v / 256 / 256 / 256 / 256 / 256 = omega arith in
+    let e2 : v / 4294967296 ≡ v / 256 / 256 / 256 / 256 = omega arith in
+    let e3 : v / 16777216 ≡ v / 256 / 256 / 256 = omega arith in
+    let e4 : v / 65536 ≡ v / 256 / 256 = omega arith in
+    rw (e1, e2, e3, e4) (sym (next_sum (address_number s) stride) ∙ ap (λ (row : List ℕ). next_row row stride) (bytes-address s e h))

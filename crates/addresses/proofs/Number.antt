@@ -1,29 +1,30 @@
 -- The laws of an address as a number.
 -- Assumes nothing.
-use Prim.Native.Nat.{ℕ, suc, ◌+◌, ◌*◌, ◌^◌, ◌≤◌, ◌<◌}
-use mathlib.Core.Path.{◌≡◌, refl, ap, ◌∙◌}
-use mathlib.Core.List.{List, [], ◌∷◌, reverse, reverse-cons, reverse-append, reverse-reverse}
-use native.Mathlib.Nat.{pow-suc, pow-le-pow_right, mul-le-mul}
-use native.Mathlib.Numerals.{add-one}
+use Prim.Native.Nat.{ℕ, suc, ◌+◌, ◌*◌, ◌≤◌, ◌<◌}
+use mathlib.Core.Path.{◌≡◌, ap, ◌∙◌}
+use mathlib.Core.List.{List, [], ◌∷◌, reverse, reverse-cons, reverse-reverse}
 use native.Mathlib.Omega.{arith}
-use mir.Syntax.{w64}
-use mir.Val.{Fits}
-use lib.ListN.{length, take, get_or, length-reverse}
-use lib.Seq.{take-suc}
+use lib.ListN.{length, get_or, length-reverse}
 use Rattle.octets.specs.Bytes.{Byte, Each, number}
 use Rattle.octets.proofs.Each.{each_append}
 use Rattle.octets.proofs.Numbers.{number-bytes, bytes-number, number_bound}
 use Rattle.addresses.specs.Addresses.{address_number, address_bytes, highest_address}
 
--- ---- of an address's first bytes
+-- ---- of an address's six bytes
 
-pub number-none : 0 ≡ address_number []
+pub number-six : (s : List ℕ) → length s ≡ 6
+    → 0 + get_or s 0 0 * 1099511627776 + get_or s 1 0 * 4294967296 + get_or s 2 0 * 16777216 + get_or s 3 0 * 65536 + get_or s 4 0 * 256
+    + get_or s 5 0
+    ≡ address_number s
 unfolding address_number number
-number-none = refl
-
-pub number_more : (i : ℕ) (s : List ℕ) → i < length s → get_or s i 0 + address_number (take i s) * 256 ≡ address_number (take (i + 1) s)
-unfolding address_number number
-number_more i s h = rw (add-one, take-suc s i 0 h, reverse-append)
+number-six (a ∷ b ∷ c ∷ d ∷ e ∷ f ∷ []) h = omega arith
+number-six [] h = absurd (omega arith)
+number-six (a ∷ []) h = absurd (omega arith)
+number-six (a ∷ b ∷ []) h = absurd (omega arith)
+number-six (a ∷ b ∷ c ∷ []) h = absurd (omega arith)
+number-six (a ∷ b ∷ c ∷ d ∷ []) h = absurd (omega arith)
+number-six (a ∷ b ∷ c ∷ d ∷ e ∷ []) h = absurd (omega arith)
+number-six (a ∷ b ∷ c ∷ d ∷ e ∷ f ∷ g ∷ s) h = absurd (omega arith)
 
 -- ---- there and back
 
@@ -53,29 +54,3 @@ unfolding address_number address_bytes
 address-bytes v h = rw reverse-reverse (number-bytes 6 v (omega arith))
 
 -- ---- bounds
-
--- a number of one digit more
-pub digits_more : (i b n : ℕ) → b < 256 → n < 256 ^ i → b + n * 256 < 256 ^ (i + 1)
-digits_more i b n h l = rw (add-one, pow-suc) (omega arith)
-
--- a number of fewer digits
-pub digits-fewer : (i k n : ℕ) → i ≤ k → n < 256 ^ i → n < 256 ^ k
-digits-fewer i k n h l = omega (arith, pow-le-pow_right {n = 256} (omega arith) {i = i} {j = k} h)
-
--- one byte more of the first five
-module _ (i n : ℕ) (h : i < 6) (l : n < 256 ^ i) where
-  pub shifted_fits : Fits w64 (n * 256)
-  shifted_fits = omega (arith, digits-fewer i 5 n (omega arith) l)
-
-  pub digit-fits : (b : ℕ) → b < 256 → Fits w64 (b + n * 256)
-  digit-fits b k = omega (arith, digits-fewer i 5 n (omega arith) l)
-
--- a count times a stride
-product-below : (m n : ℕ) → m < 65536 → n < 256 → m * n < 16777216
-product-below m n h l = omega (arith, mul-le-mul {n₁ = m} {m₁ = n} {n₂ = 65535} {m₂ = 255} (omega arith) (omega arith))
-
-pub product-fits : (m n : ℕ) → m < 65536 → n < 256 → Fits w64 (m * n)
-product-fits m n h l = omega (arith, product-below m n h l)
-
-pub last_fits : (a m n : ℕ) → a ≤ highest_address → m < 65536 → n < 256 → Fits w64 (a + m * n)
-last_fits a m n b h l = omega (arith, product-below m n h l)

@@ -1,10 +1,11 @@
 -- The address plan (document 02, item 9) of base, count and stride, and its first eight addresses as rows of six bytes.
 -- `passes` tells when a plan passes the highest address. Assumes nothing: these are definitions.
-use Rattle.std.specs.Prelude.{Bool, false, cond, List, [], ◌∷◌, map, reverse, ℕ, ◌+◌, ◌*◌, ◌-◌, ◌/◌, ◌%◌, ltb, eqb, replicate}
+use Rattle.std.specs.Prelude.{Bool, false, cond, List, [], ◌∷◌, map, reverse, Result, Ok, Err, ⊤}
+use Rattle.std.specs.Prelude.{ℕ, ◌+◌, ◌*◌, ◌-◌, ◌/◌, ◌%◌, ltb, eqb, replicate}
 use Rattle.std.proofs.Math.Option.{Option, none, some}
 use Rattle.octets.specs.Bytes.{number, bytes}
-use Rattle.addresses.specs.declared.Planned.{Planned}
-use Rattle.addresses.specs.declared.Planned.TheVariants.{Fits, Passes}
+use Rattle.refusals.specs.declared.Refusal.{Refusal}
+use Rattle.refusals.specs.Refusals.{table_number}
 
 -- ---- Addresses: six bytes, the most significant first
 
@@ -50,9 +51,9 @@ unfoldable pub plan_promise : List ℕ → ℕ → ℕ → Option ℕ
 plan_promise base count stride = cond (passes base count stride) (some 16) none
 
 -- the number of each case
-unfoldable pub plan_report : Planned → Option ℕ
-plan_report Fits = none
-plan_report Passes = some 16
+unfoldable pub plan_report : Result ⊤ Refusal → Option ℕ
+plan_report (Ok done) = none
+plan_report (Err why) = some (table_number why)
 
 -- ---- The 48-bit carry, row by row
 

@@ -2,9 +2,11 @@
 // Assumes nothing: no function has a `requires`, and nothing is lent.
 #![tactic(auto)]
 
-ghost use Rattle.std.specs.Prelude.{◌≡◌, ◌≤◌, ◌<◌, min};
+ghost use Rattle.std.specs.Prelude.{◌≡◌, ◌≤◌};
 ghost use Rattle.addresses.specs.Addresses.{address_number, highest_address, passes, addresses_promise, plan_promise, plan_report};
 ghost use Rattle.addresses.specs.Addresses.{next_row};
+
+use refusals::Refusal;
 
 // How many bytes an address has.
 pub const ADDRESS_LENGTH: usize = 6;
@@ -12,93 +14,59 @@ pub const ADDRESS_LENGTH: usize = 6;
 // How many rows are given.
 pub const ROWS: usize = 8;
 
-// The most addresses that fill a row.
-const MOST_FILLED: u16 = ROWS as u16;
-
 // ff:ff:ff:ff:ff:ff
 const HIGHEST_ADDRESS: u64 = 281474976710655;
 
-// Whether a plan's last counted address is at most the highest.
-#[derive(Clone, Copy)]
-pub enum Planned {
-    Fits,
-    Passes,
-}
-
 // The first eight addresses, each a row of six bytes, the most significant first.
-// Rows past the count are zero, and all are where the plan passes.
+// Rows past the count are zero, and all are where the plan passes. The plan's three numbers are those of the C interface.
 pub fn addresses(base: [u8; 6], count: u16, stride: u8) -> [[u8; 6]; 8]
     ensures { result ≡ addresses_promise base count stride }
 {
-    let zero = [0u8; 6];
-    let mut rows = [zero; 8];
-    let filled = min(count, MOST_FILLED);
+    let mut rows = [[0; ADDRESS_LENGTH]; ROWS];
     if last_passes(base, count, stride) {
         return rows;
     }
     let mut row = base;
-    let mut i = 0;
-    while i < filled {
-        rows[i as usize] = row;
+    for i in 0..usize::from(count).min(ROWS) {
+        rows[i] = row;
+        // A local of its own: a call whose result replaces an array gets no generated proof.
         let next = next_row(row, stride);
         row = next;
-        i += 1;
     }
     rows
 }
 
 // Whether the plan passes, which is refusal 16.
-pub fn plan(base: [u8; 6], count: u16, stride: u8) -> Planned
+pub fn plan(base: [u8; 6], count: u16, stride: u8) -> Result<(), Refusal>
     ensures { plan_report result ≡ plan_promise base count stride }
 {
     if !last_passes(base, count, stride) {
-        return Planned::Fits;
+        return Ok(());
     }
-    Planned::Passes
+    Err(Refusal::PlanPasses)
 }
 
 fn last_passes(base: [u8; 6], count: u16, stride: u8) -> bool
     ensures { result ≡ passes base count stride }
 {
-    if count == 0 {
+    let Some(steps) = count.checked_sub(1) else {
         return false;
-    }
-    let steps = count - 1;
-    let last = number_of(base) + steps as u64 * octets::wide(stride) as u64;
-    HIGHEST_ADDRESS < last
+    };
+    HIGHEST_ADDRESS < number_of(base) + u64::from(steps) * u64::from(stride)
 }
 
 // An address as a number.
 fn number_of(address: [u8; 6]) -> u64
     ensures { (result ≡ address_number address) × (result ≤ highest_address) }
 {
-    let mut number = 0;
-    let mut i = 0;
-    while i < ADDRESS_LENGTH {
-        number = octets::wide(address[i]) as u64 + number * 256;
-        i += 1;
-    }
-    number
+    let [a, b, c, d, e, f] = address;
+    u64::from_be_bytes([0, 0, a, b, c, d, e, f])
 }
 
-// The row after a row: the stride is added at the last byte, and each byte's carry at the byte before it.
+// The row after a row, as six bytes hold it: the stride is added to the row's number.
 fn next_row(row: [u8; 6], stride: u8) -> [u8; 6]
     ensures { result ≡ next_row row stride }
 {
-    let mut next = row;
-    let mut carry = octets::wide(stride) as u64;
-    let mut left = ADDRESS_LENGTH;
-    while 0 < left {
-        left -= 1;
-        let sum = octets::wide(next[left]) as u64 + carry;
-        next[left] = (sum % 256) as u8;
-        carry = sum / 256;
-    }
-    next
-}
-
-fn min(a: u16, b: u16) -> u16
-    ensures { result ≡ min a b }
-{
-    if a < b { a } else { b }
+    let [_, _, a, b, c, d, e, f] = (number_of(row) + u64::from(stride)).to_be_bytes();
+    [a, b, c, d, e, f]
 }

@@ -15,7 +15,7 @@ use Rattle.std.specs.Prelude.{None, Some, IfSome}
 use Rattle.std.specs.declared.option.Option.{Option}
 use Rattle.std.specs.Io.KnownBytes.{Appends, Consumes, IsAtEnd}
 use Rattle.std.proofs.KnownBytes.{Consumes-trans}
-use Rattle.audit.specs.Text.{longest_capture, audit, Wrote}
+use Rattle.audit.specs.Text.{longest_capture, audit}
 use Rattle.audit.proofs.Lines.{audit-over}
 
 -- the input ended behind the bytes that stand at the room's start
@@ -61,10 +61,10 @@ pub audit-cut : (w : List ℕ) → audit (take (longest_capture + 1) w) ≡ audi
 audit-cut w = audit-cut-by w (ltb longest_capture (length w)) refl
 
 -- what is written where the capture is known
-pub audited : (input old new : Option (List ℕ)) (n : ℕ) (lent room s t : List ℕ) (k : ℕ) → length lent ≡ longest_capture + 1
-    → IfSome input (λ w. take n room ≡ take (length lent) w) → Wrote s 0 (audit (take n room)) t k → Appends old new (take k t)
+pub audited : (input old new : Option (List ℕ)) (n : ℕ) (lent room t : List ℕ) → length lent ≡ longest_capture + 1
+    → IfSome input (λ w. take n room ≡ take (length lent) w) → t ≡ audit (take n room) → Appends old new t
     → IfSome input (λ w. Appends old new (audit w))
-audited None old new n lent room s t k long e wrote put = tt
-audited (Some w) old new n lent room s t k long e wrote put =
-    let whole : take k t ≡ audit w = wrote.holds ∙ ap audit (rw long at e) ∙ audit-cut w in
+audited None old new n lent room t long e text put = tt
+audited (Some w) old new n lent room t long e text put =
+    let whole : t ≡ audit w = text ∙ ap audit (rw long at e) ∙ audit-cut w in
     rw whole at put

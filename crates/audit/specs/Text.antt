@@ -1,6 +1,6 @@
 -- What the audit program writes for a capture (document 02, item 13): a line for each frame that is not empty, then the tail's.
 -- Assumes nothing: these are definitions.
-use Rattle.std.specs.Prelude.{◌≡◌, cond, List, [], ◌∷◌, ◌++◌, ℕ, zero, suc, ◌+◌, ◌*◌, ◌/◌, ◌%◌, ltb, length, take}
+use Rattle.std.specs.Prelude.{cond, List, [], ◌∷◌, ◌++◌, ℕ, zero, suc, ◌+◌, ◌*◌, ◌/◌, ◌%◌, ltb, length}
 use Rattle.line.specs.Judge.{LineVerdict, failure, good}
 use Rattle.plain.specs.Listing.{ListedFrame, Listing, listing}
 
@@ -46,8 +46,3 @@ too_long = 0x74 ∷ 0x6f ∷ 0x6f ∷ 0x20 ∷ 0x6c ∷ 0x6f ∷ 0x6e ∷ 0x67 �
 
 unfoldable pub audit : List ℕ → List ℕ
 audit capture = cond (ltb longest_capture (length capture)) too_long (text (listing capture))
-
--- xs were written behind the first bytes of s, which became t; r is where they end
-pub record Wrote (s : List ℕ) (from : ℕ) (xs t : List ℕ) (r : ℕ) : Type 0 where
-  pub ends : r ≡ from + length xs
-  pub holds : take r t ≡ take from s ++ xs

@@ -6,17 +6,14 @@ pub mod outcome;
 
 ghost use Rattle.std.specs.Prelude.{◌≡◌};
 ghost use Rattle.counters.specs.Ended.{step_report};
-ghost use Rattle.counters.specs.Count.{one_more, cleared_counters, bumped_for};
 ghost use Rattle.counters.specs.declared.outcome.Outcome.TheVariants as report;
+ghost use Rattle.counters.specs.Count.{one_more, cleared_counters, bumped_for};
 
 use crate::outcome::Outcome;
 
-// The largest number of a counter.
-const MOST_COUNTED: u32 = 4294967295;
-
 // How many frames there were of each kind: good requests, empty frames, and failures by the reason's number.
 #[repr(C)]
-#[derive(Clone, Copy)]
+#[derive(Clone, Copy, Debug, Default, PartialEq, Eq)]
 pub struct Counters {
     pub good: u32,
     pub empty: u32,
@@ -33,86 +30,46 @@ pub struct Counters {
 pub fn cleared() -> Counters
     ensures { result ≡ cleared_counters }
 {
-    Counters {
-        good: 0,
-        empty: 0,
-        reason1: 0,
-        reason2: 0,
-        reason3: 0,
-        reason4: 0,
-        reason5: 0,
-        reason6: 0,
-        reason7: 0,
-    }
+    Counters::default()
 }
 
 // The counters after a frame that ended so; as they are where none ended.
-pub fn bumped(counters: Counters, outcome: Outcome) -> Counters
+#[tactic(auto, unfolding(crate::specs::Count::bumped_for, crate::specs::Ended::step_report))]
+pub fn bumped(mut counters: Counters, outcome: Outcome) -> Counters
     ensures { result ≡ bumped_for counters (step_report outcome) }
 {
-    let mut bumped = counters;
     match outcome {
-        Outcome::Refused => bumped,
-        Outcome::More => bumped,
-        Outcome::Empty => {
-            bumped.empty = one_more(bumped.empty);
-            bumped
-        }
-        Outcome::Request(_) => {
-            bumped.good = one_more(bumped.good);
-            bumped
-        }
-        Outcome::KeySet(_, _) => {
-            bumped.good = one_more(bumped.good);
-            bumped
-        }
-        Outcome::Failure(reason) => failed(bumped, reason),
+        Outcome::Refused | Outcome::More => {}
+        Outcome::Empty => counters.empty = one_more(counters.empty),
+        Outcome::Request(_) | Outcome::KeySet(_, _) => counters.good = one_more(counters.good),
+        Outcome::Failure(reason) => counters = failed(counters, reason),
     }
+    counters
 }
 
 // The counters after a failure with this reason.
-fn failed(counters: Counters, reason: u8) -> Counters
+#[tactic(auto, unfolding(crate::specs::Count::bumped_for, crate::specs::Ended::step_report))]
+fn failed(mut counters: Counters, reason: u8) -> Counters
     ensures { result ≡ bumped_for counters (step_report (report.Failure reason)) }
 {
-    let mut bumped = counters;
-    if reason == 1 {
-        bumped.reason1 = one_more(bumped.reason1);
-        return bumped;
+    match reason {
+        1 => counters.reason1 = one_more(counters.reason1),
+        2 => counters.reason2 = one_more(counters.reason2),
+        3 => counters.reason3 = one_more(counters.reason3),
+        4 => counters.reason4 = one_more(counters.reason4),
+        5 => counters.reason5 = one_more(counters.reason5),
+        6 => counters.reason6 = one_more(counters.reason6),
+        7 => counters.reason7 = one_more(counters.reason7),
+        _ => {}
     }
-    if reason == 2 {
-        bumped.reason2 = one_more(bumped.reason2);
-        return bumped;
-    }
-    if reason == 3 {
-        bumped.reason3 = one_more(bumped.reason3);
-        return bumped;
-    }
-    if reason == 4 {
-        bumped.reason4 = one_more(bumped.reason4);
-        return bumped;
-    }
-    if reason == 5 {
-        bumped.reason5 = one_more(bumped.reason5);
-        return bumped;
-    }
-    if reason == 6 {
-        bumped.reason6 = one_more(bumped.reason6);
-        return bumped;
-    }
-    if reason == 7 {
-        bumped.reason7 = one_more(bumped.reason7);
-        return bumped;
-    }
-    bumped
+    counters
 }
 
+#[tactic(auto, unfolding(crate::specs::Count::one_more))]
 fn one_more(count: u32) -> u32
     ensures { result ≡ one_more count }
 {
-    if count < MOST_COUNTED {
-        return count + 1;
-    }
-    count
+    count.saturating_add(1)
 }
 
 // Bumps the counter of a frame's outcome in place.

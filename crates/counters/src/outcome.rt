@@ -2,7 +2,8 @@
 // Assumes nothing.
 
 // What a call of `step` answers; `step_report` and `served_report` in specs/Ended.antt give document 01's numbers.
-#[derive(Clone, Copy)]
+// `Refused` and the number of a failure stay in it: `bumped` promises what it does at each.
+#[derive(Clone, Copy, Debug, PartialEq, Eq)]
 pub enum Outcome {
     Refused,
     More,

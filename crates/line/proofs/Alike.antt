@@ -1,18 +1,35 @@
 -- Bytes that are all alike: found in a list, and put into one.
 -- Assumes nothing.
 use Prim.Native.Nat.{ℕ, zero, suc, ◌+◌, ◌≤◌, ◌<◌}
-use mathlib.Core.Path.{◌≡◌, sym, ◌∙◌}
-use mathlib.Core.Bool.{true, false}
+use mathlib.Core.Path.{◌≡◌, refl, sym, ◌∙◌}
+use mathlib.Core.Bool.{Bool, true, false, ◌&&◌}
 use mathlib.Core.List.{List, [], ◌∷◌, ◌++◌}
 use native.Mathlib.Omega.{arith}
+use borrow.Author.Tests.{eqb-true}
+use lib.Dec.{eqb}
 use lib.ListN.{length, take, drop, get_or, set, replicate, length-replicate, replicate-append-replicate, take-append-drop}
 use lib.Seq.{take-take, drop-drop}
+use Rattle.std.specs.List.{fold}
 use Rattle.octets.specs.Bytes.{run, overlay}
 use Rattle.octets.proofs.Overlay.{run_take, run_more, overlay-none, overlay-more}
 
 -- a test that fails
 pub failed : {A : Type 0} → false ≡ true → A
 failed e = let x : ◌≡◌ {A = ℕ} 0 1 = cc in absurd (omega arith)
+
+-- every byte tested
+fold-other : (b : ℕ) (xs : List ℕ) → fold (λ same x. same && eqb x b) false xs ≡ false
+fold-other b [] = refl
+fold-other b (x ∷ xs) = fold-other b xs
+
+pub fold-alike : (b : ℕ) (xs : List ℕ) → fold (λ same x. same && eqb x b) true xs ≡ true → xs ≡ replicate (length xs) b
+fold-alike b [] e = refl
+fold-alike b (x ∷ xs) e = by (eqb x b) refl e (fold-alike b xs)
+  where
+    by : (t : Bool) → eqb x b ≡ t → fold (λ same y. same && eqb y b) t xs ≡ true
+        → (fold (λ same y. same && eqb y b) true xs ≡ true → xs ≡ replicate (length xs) b) → x ∷ xs ≡ replicate (suc (length xs)) b
+    by true f g next = let h = eqb-true x b f in let i = next g in cc
+    by false f g next = failed (sym (fold-other b xs) ∙ g)
 
 -- one byte more
 pub alike-more : (b k : ℕ) → replicate (k + 1) b ≡ replicate k b ++ b ∷ []

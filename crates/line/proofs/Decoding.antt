@@ -11,9 +11,9 @@ use lib.Dec.{eqb, leb, ltb, leb-suc-suc}
 use lib.ListN.{length, take, drop, get_or, replicate, length-append, drop_of_length-le}
 use lib.Seq.{slice, slice-cons, length-slice, length-take-le, drop-drop}
 use borrow.Author.Tests.{eq-eqb, ne_eqb}
+use mir.Val.{bool_byte}
 use Rattle.octets.specs.Bytes.{run, equal}
-use Rattle.line.specs.declared.cobs.Measured.{Measured}
-use Rattle.line.specs.declared.cobs.Measured.TheVariants.{Bad, Length}
+use Rattle.std.specs.Prelude.{Option as Optional, None, Some}
 use Rattle.line.specs.Cobs.{implied_zero, last_one_after_full, group_bytes, uncobs}
 use Rattle.line.specs.Decoding.{one_if, measured, plain_group, plain}
 use Rattle.line.proofs.Alike.{alike_next}
@@ -47,24 +47,29 @@ gives-plain zero z (c ∷ cs) =
     gives-unless (eqb c 0 || last_one_after_full c cs) _ _ (gives-map (implied_zero z) _ _ (gives-plain (c - 1) (ltb c 255) cs))
 gives-plain (suc left) z (b ∷ bs) = gives-map (b ∷ []) _ _ (gives-plain left z bs)
 
-bad-none : (r : Option (List ℕ)) → Bad ≡ measured r → r ≡ none
+bad-none : (r : Option (List ℕ)) → None ≡ measured r → r ≡ none
 unfolding measured
 bad-none none e = refl
 bad-none (some xs) e = let z : ◌≡◌ {A = ℕ} 0 1 = cc in absurd (omega arith)
 
-length_some : (r : Option (List ℕ)) (d : List ℕ) (k : ℕ) → Gives r d → Length k ≡ measured r → (r ≡ some d) × (length d ≡ k)
+length_some : (r : Option (List ℕ)) (d : List ℕ) (k : ℕ) → Gives r d → Some k ≡ measured r → (r ≡ some d) × (length d ≡ k)
 unfolding measured Gives
 length_some none d k h e = let z : ◌≡◌ {A = ℕ} 0 1 = cc in absurd (omega arith)
 length_some (some xs) d k h e = (ap some h, cc)
 
 -- a form that is measured as bad is none
-pub measured-bad : (f : List ℕ) → Bad ≡ measured (uncobs f) → uncobs f ≡ none
+pub measured-bad : (f : List ℕ) → None ≡ measured (uncobs f) → uncobs f ≡ none
 measured-bad f e = bad-none (uncobs f) e
 
 -- a form with a length decodes to its plain bytes, and they have that length
-pub measured-length : (f : List ℕ) (k : ℕ) → Length k ≡ measured (uncobs f) → (uncobs f ≡ some (plain f)) × (length (plain f) ≡ k)
+pub measured-length : (f : List ℕ) (k : ℕ) → Some k ≡ measured (uncobs f) → (uncobs f ≡ some (plain f)) × (length (plain f) ≡ k)
 unfolding uncobs plain
 measured-length f k e = length_some (group_bytes 0 false f) (plain_group 0 false f) k (gives-plain 0 false f) e
+
+-- a flag as a number
+pub byte-one-if : (z : Bool) → bool_byte z ≡ one_if z
+byte-one-if true = refl
+byte-one-if false = refl
 
 pub one-if-most : (z : Bool) → one_if z ≤ 1
 one-if-most true = omega arith
@@ -89,14 +94,14 @@ pub holds_test : (c : ℕ) → leb c 254 ≡ ltb c 255
 holds_test c = sym (leb-suc-suc c 254)
 
 -- the length of what decodes, with o bytes before it
-pub counted : ℕ → Option (List ℕ) → Measured
-counted o none = Bad
-counted o (some xs) = Length (o + length xs)
+pub counted : ℕ → Option (List ℕ) → Optional ℕ
+counted o none = None
+counted o (some xs) = Some (o + length xs)
 
 counted-all : (r : Option (List ℕ)) → measured r ≡ counted 0 r
 unfolding measured counted
 counted-all none = refl
-counted-all (some xs) = ap Length (omega arith)
+counted-all (some xs) = ap Some (omega arith)
 
 pub counted_start : (f : List ℕ) → measured (uncobs f) ≡ counted 0 (group_bytes 0 false f)
 unfolding uncobs
@@ -105,7 +110,7 @@ counted_start f = counted-all (group_bytes 0 false f)
 counted-map : (o : ℕ) (ys : List ℕ) (r : Option (List ℕ)) → counted o (map (λ xs. ys ++ xs) r) ≡ counted (o + length ys) r
 unfolding counted
 counted-map o ys none = refl
-counted-map o ys (some xs) = ap Length (omega (arith, length-append ys xs))
+counted-map o ys (some xs) = ap Some (omega (arith, length-append ys xs))
 
 -- the bytes of a group that is there as a whole
 counted-run : (k o : ℕ) (z : Bool) (bs : List ℕ) → k ≤ length bs
@@ -174,28 +179,28 @@ module _ (s : List ℕ) (n i : ℕ) where
 
   module _ (z : Bool) (o : ℕ) where
     -- the length of the whole, where o bytes stand before the group
-    abbrev pub Counted : Measured
+    abbrev pub Counted : Optional ℕ
     Counted = counted o (group_bytes 0 z (slice i n s))
 
-    pub counted-end : n ≤ i → n ≤ length s → Length o ≡ Counted
+    pub counted-end : n ≤ i → n ≤ length s → Some o ≡ Counted
     unfolding counted group_bytes
-    counted-end h k = rw (slice-past h k) (ap Length (omega arith))
+    counted-end h k = rw (slice-past h k) (ap Some (omega arith))
 
     module _ (c : ℕ) (h : i < n) (k : n ≤ length s) (e : c ≡ get_or s i 0) where
       at_code : slice i n s ≡ c ∷ slice (i + 1) n s
       at_code = rw e (slice-next h k)
 
-      pub counted-zero : c ≡ 0 → Bad ≡ Counted
+      pub counted-zero : c ≡ 0 → None ≡ Counted
       unfolding counted
       counted-zero f = rw (at_code, code-zero z c (slice (i + 1) n s) f)
 
-      pub counted-short : n - i < c → Bad ≡ Counted
+      pub counted-short : n - i < c → None ≡ Counted
       unfolding counted
       counted-short l =
           let m = length-slice (i + 1) n s k in
           rw (at_code, code-short z c (slice (i + 1) n s) (omega arith))
 
-      pub counted-last : true ≡ last_one_after_full c (slice (i + 1) n s) → Bad ≡ Counted
+      pub counted-last : true ≡ last_one_after_full c (slice (i + 1) n s) → None ≡ Counted
       unfolding counted
       counted-last f = rw (at_code, code-last z c (slice (i + 1) n s) (sym f))
 
@@ -264,9 +269,6 @@ equal-not-one (x ∷ y ∷ ys) v h = and-false (eqb x v)
 
 -- after the group with the code byte c at i, in the first n bytes of s
 module _ (s : List ℕ) (n i c : ℕ) where
-  pub last-below : c ≤ 254 → false ≡ last_one_after_full c (slice (i + 1) n s)
-  last-below h = rw (ne_eqb c 255 (λ e. omega arith))
-
   module _ (h : 254 < c) (l : c < 256) (k : n ≤ length s) where
     last-behind : last_one_after_full c (slice (i + 1) n s) ≡ equal (slice (i + c) n s) (1 ∷ [])
     last-behind =

@@ -1,12 +1,14 @@
 -- Laws of the tests on a frame's bytes, and of what they leave in the reader's state.
 -- Assumes nothing.
 use mathlib.Core.Path.{◌≡◌, sym, ap, ◌∙◌}
-use mathlib.Core.Bool.{true, false, or-true}
+use mathlib.Core.Bool.{true, false, ◌||◌, or-true}
 use mathlib.Core.List.{List}
+use mathlib.Core.Logic.{◌⊎◌, inl, inr}
 use mathlib.Core.Option.{none, some}
 use Prim.Native.Nat.{ℕ, ◌+◌, ◌-◌, ◌≤◌, ◌<◌}
 use native.Mathlib.Nat.{add-sub_cancel_left}
 use native.Mathlib.Omega.{arith}
+use lib.Dec.{ltb}
 use lib.ListN.{length, take, drop, length-drop, length-take}
 use lib.Seq.{take_all}
 use borrow.Author.Tests.{eq-eqb, ne_eqb, lt-ltb, le-ltb}
@@ -23,8 +25,7 @@ use Rattle.line.specs.Decoding.{measured, plain}
 use Rattle.line.specs.ReaderLayout.{frame_offset, unpacked}
 use Rattle.line.specs.Reader.{reader_length, ReadReport, failed, message, verdict_report, frame_outcome}
 use Rattle.line.specs.Reader.{finish_form}
-use Rattle.line.specs.declared.cobs.Measured.{Measured}
-use Rattle.line.specs.declared.cobs.Measured.TheVariants.{Bad, Length}
+use Rattle.std.specs.Prelude.{Option as Optional, None, Some}
 use Rattle.line.proofs.Decoding.{measured-bad, measured-length}
 
 -- the part of a state that holds a decoded message of k bytes, as the code makes it
@@ -65,6 +66,11 @@ module _ (xs : List ℕ) (k : ℕ) (e : length xs ≡ k) (h : shortest_message �
 pub form_fits : (s : List ℕ) (n : ℕ) → reader_length ≤ length s → n ≤ longest_form → length (run frame_offset n s) ≤ longest_form
 form_fits s n h l = omega (arith, length_run frame_offset n s (omega arith))
 
+wrong : (k : ℕ) → (k < shortest_message) ⊎ ((shortest_message ≤ k) × (longest_message < k))
+    → ltb k shortest_message || ltb longest_message k ≡ true
+wrong k (inl h) = rw (lt-ltb k shortest_message h)
+wrong k (inr (h, j)) = rw (lt-ltb longest_message k j, or-true)
+
 module _ (form s : List ℕ) (l : length form ≤ longest_form) where
   judge-form : judge form ≡ judge_form (uncobs form)
   unfolding judge
@@ -85,20 +91,16 @@ module _ (form s : List ℕ) (l : length form ≤ longest_form) where
     finish-message t = rw (judge-form, e, t)
 
   -- as the length of what the frame decodes to is found
-  module _ {m : Measured} (e : m ≡ measured (uncobs form)) where
-    pub finish-bad : m ≡ Bad → frame_outcome (failed 1 none) s ≡ finish_form form s
+  module _ {m : Optional ℕ} (e : m ≡ measured (uncobs form)) where
+    pub finish-bad : m ≡ None → frame_outcome (failed 1 none) s ≡ finish_form form s
     finish-bad b = finish-none (measured-bad form (sym b ∙ e))
 
-    module _ {k : ℕ} (b : m ≡ Length k) where
-      pub finish-short : k < shortest_message → frame_outcome (failed 3 none) s ≡ finish_form form s
-      finish-short h =
+    module _ {k : ℕ} (b : m ≡ Some k) where
+      pub finish-wrong : (k < shortest_message) ⊎ ((shortest_message ≤ k) × (longest_message < k))
+          → frame_outcome (failed 3 none) s ≡ finish_form form s
+      finish-wrong h =
           let p = measured-length form k (sym b ∙ e) in
-          finish-length (plain form) p.0 (rw (p.1, lt-ltb k shortest_message h))
-
-      pub finish-long : longest_message < k → frame_outcome (failed 3 none) s ≡ finish_form form s
-      finish-long h =
-          let p = measured-length form k (sym b ∙ e) in
-          finish-length (plain form) p.0 (rw (p.1, lt-ltb longest_message k h, or-true))
+          finish-length (plain form) p.0 (rw p.1 (wrong k h))
 
       pub finish-fits : shortest_message ≤ k → k ≤ longest_message → frame_offset ≤ length s → {t : List ℕ} {a : ReadReport}
           → t ≡ overlay frame_offset (plain form) s → a ≡ verdict_report (judge_form (some (run frame_offset k t)))

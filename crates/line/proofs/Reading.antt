@@ -38,9 +38,6 @@ ahead-again [] = refl
 ahead-again (zero ∷ p) = refl
 ahead-again (suc b ∷ p) = ap suc (ahead-again p)
 
-ahead-part : (p : List ℕ) {n : ℕ} → n ≡ length (ahead p) → ahead_of00 p ≡ take n p
-ahead-part p e = rw (e, ← nonzero-prefix (length p) p) (ahead-is p)
-
 read_next : (s : List ℕ) (b : ℕ) (p : List ℕ) → read_piece s (suc b ∷ p) ≡ one_byte_later (read_piece (pushed s (suc b)) p)
 unfolding read_piece
 read_next s b p = rw (ne_eqb (suc b) 0 (λ e. omega arith))
@@ -105,15 +102,5 @@ unfolding collect_promise read_promise
 collect-keeps s p v = rw (v, ahead-is p) (sym (read_more s (ahead p) (ahead-again p)))
 
 module _ (s p : List ℕ) (v : valid_reader s ≡ true) {n : ℕ} (e : n ≡ length (ahead p)) where
-  -- by their copy
   pub collecting-kept : {t : List ℕ} → t ≡ pushed_all s (take n p) → outcome_of n more t ≡ collect_promise s p
   collecting-kept kept = cc (collect-keeps s p v, nonzero-prefix (length p) p)
-
-  -- and by a read
-  pub collecting-read : {m : ℕ} {a : ReadReport} {t : List ℕ} → outcome_of m a t ≡ read_promise s (take n p)
-      → outcome_of m more t ≡ collect_promise s p
-  unfolding collect_promise
-  collecting-read w =
-      let k = collect-keeps s p v in
-      let x = w ∙ sym (ap (read_promise s) (ahead-part p e)) ∙ k in
-      cc (k, ap (λ (o : ReadOutcome). o.used) x, ap (λ (o : ReadOutcome). o.state) x)

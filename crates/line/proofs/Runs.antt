@@ -1,14 +1,18 @@
 -- The laws of runs of bytes that are not zero.
 -- Assumes nothing.
 use Prim.Native.Nat.{ℕ, zero, suc, ◌+◌, ◌-◌, ◌≤◌, ◌<◌, min}
-use mathlib.Core.Path.{◌≡◌, refl, ap, ◌∙◌}
-use mathlib.Core.Bool.{Bool, true, false, ◌||◌}
+use mathlib.Core.Path.{◌≡◌, refl, ap}
+use mathlib.Core.Bool.{Bool, true, false, cond}
 use mathlib.Core.List.{List, [], ◌∷◌}
 use native.Mathlib.Nat.{add-zero, zero-add, suc-add, sub-zero}
 use native.Mathlib.Numerals.{add-one, unary_clauses}
 use native.Mathlib.Omega.{arith}
-use lib.ListN.{length, take, drop, get_or, length-drop}
+use lib.Dec.{eqb, eqb-suc-zero}
+use lib.ListN.{length, take, drop, get_or, length-drop, length-take}
 use lib.Seq.{drop-cons, drop-drop}
+use borrow.Author.Tests.{ltb-true, ltb-false}
+use Rattle.std.specs.Prelude.{Some, None, position}
+use Rattle.std.specs.List.{list_any, position_or_len}
 use Rattle.octets.specs.Bytes.{Each}
 use Rattle.line.specs.Runs.{nonzero, run_length}
 
@@ -95,10 +99,6 @@ module _ (most k : ℕ) (xs : List ℕ) where
 
 -- ---- a run block by block
 
-pub or-false : (a b : Bool) → (a || b) ≡ false → (a ≡ false) × (b ≡ false)
-or-false true b e = (e, cc)
-or-false false b e = (refl, e)
-
 -- a run that goes on as far as it may, and the run behind it
 nonzero-add : (j m : ℕ) (xs : List ℕ) → length (nonzero j xs) ≡ j → length (nonzero (j + m) xs) ≡ j + length (nonzero m (drop j xs))
 unfolding nonzero
@@ -107,13 +107,6 @@ nonzero-add (suc j) m [] h = absurd (omega arith)
 nonzero-add (suc j) m (zero ∷ xs) h = absurd (omega arith)
 nonzero-add (suc j) m (suc b ∷ xs) h = rw (suc-add j m) (omega (arith, nonzero-add j m xs (omega arith)))
 
--- one more byte that is not zero
-pub nonzero-one : (k : ℕ) (xs : List ℕ) → length (nonzero k xs) ≡ k → k < length xs → 0 < get_or xs k 0 → length (nonzero (k + 1) xs)
-    ≡ k + 1
-nonzero-one k xs h l b =
-    let m = nonzero-more 1 (get_or xs k 0) (drop (suc k) xs) (omega arith) b in
-    nonzero-add k 1 xs h ∙ rw (drop-cons xs k 0 l) (omega (arith, m, nonzero-most 0 (drop (suc k) xs)))
-
 -- j bytes that are not zero are next
 pub reached-block : (most k j : ℕ) (xs : List ℕ) → k + j ≤ most → length (nonzero j (drop k xs)) ≡ j
     → run_length most k xs ≡ run_length most (k + j) xs
@@ -121,16 +114,64 @@ reached-block most k j xs h l =
     let e : j + (most - (k + j)) ≡ most - k = omega arith in
     omega (arith, rw (e, drop-drop) at (nonzero-add j (most - (k + j)) (drop k xs) l))
 
--- a run that is shorter than it may be goes no further
-nonzero-still : (j most : ℕ) (xs : List ℕ) → j ≤ most → length (nonzero j xs) < j → nonzero most xs ≡ nonzero j xs
-unfolding nonzero
-nonzero-still zero most xs h l = absurd (omega arith)
-nonzero-still (suc j) zero xs h l = absurd (omega arith)
-nonzero-still (suc j) (suc most) [] h l = refl
-nonzero-still (suc j) (suc most) (zero ∷ xs) h l = refl
-nonzero-still (suc j) (suc most) (suc b ∷ xs) h l = ap (λ (l : List ℕ). suc b ∷ l) (nonzero-still j most xs (omega arith) (omega arith))
+-- ---- a search for the first zero
 
--- the run ends within the next j bytes
-pub reached-stop : (most k j : ℕ) (xs : List ℕ) → k + j ≤ most → length (nonzero j (drop k xs)) < j
-    → run_length most k xs ≡ k + length (nonzero j (drop k xs))
-reached-stop most k j xs h l = rw (nonzero-still j (most - k) (drop k xs) (omega arith) l)
+first-zero : (xs : List ℕ) → length (nonzero (length xs) xs) ≡ position_or_len (λ b. eqb b 0) xs
+unfolding nonzero
+first-zero [] = refl
+first-zero (zero ∷ xs) = refl
+first-zero (suc b ∷ xs) = rw eqb-suc-zero (omega (arith, first-zero xs))
+
+found : (t : Bool) (m n : ℕ) → Some n ≡ cond t (Some m) None → (t ≡ true) × (n ≡ m)
+found true m n e = (refl, cc)
+found false m n e = (cc, cc)
+
+not_found : (t : Bool) (m : ℕ) → None ≡ cond t (Some m) None → t ≡ false
+not_found true m e = cc
+not_found false m e = refl
+
+-- the bytes of a list behind those that are passed
+module _ (k : ℕ) (s : List ℕ) (h : k ≤ length s) where
+  abbrev rest : List ℕ
+  rest = take (length s - k) (drop k s)
+
+  rest-length : length rest ≡ length s - k
+  rest-length = simp (length-take, length-drop) (omega arith)
+
+  rest-run : run_length (length s) k s ≡ k + length (nonzero (length rest) rest)
+  rest-run =
+      let m : min (length s - k) (length s - k) ≡ length s - k = omega arith in
+      rw (rest-length, nonzero-take, m)
+
+  pub zero_found : {n : ℕ} → Some n ≡ position (λ b. eqb b 0) rest → (k + n ≡ run_length (length s) k s) × (k + n ≤ length s)
+  zero_found {n} e =
+      let f = found _ _ n e in
+      let g = ltb-true _ _ f.0 in
+      (omega (arith, rest-run, first-zero rest, f.1), omega (arith, rest-length, g, f.1))
+
+  pub zero_not_found : None ≡ position (λ b. eqb b 0) rest → length s ≡ run_length (length s) k s
+  zero_not_found e =
+      let g = ltb-false _ _ (not_found _ _ e) in
+      omega (arith, rest-run, first-zero rest, rest-length, g, nonzero-length (length rest) rest)
+
+-- a part of a list
+module _ (at n : ℕ) (s : List ℕ) (h : at + n ≤ length s) where
+  abbrev part : List ℕ
+  part = take (at + n - at) (drop at s)
+
+  pub length-part : length part ≡ n
+  length-part = simp (length-take, length-drop) (omega arith)
+
+  pub part-run : nonzero (length part) part ≡ nonzero n (drop at s)
+  part-run =
+      let e : at + n - at ≡ n = omega arith in
+      let m : min n n ≡ n = omega arith in
+      rw (length-part, e, nonzero-take, m)
+
+-- none of n bytes is zero
+pub any-nonzero : (n : ℕ) (xs : List ℕ) → n ≤ length xs → list_any (λ b. eqb b 0) (take n xs) ≡ false → length (nonzero n xs) ≡ n
+unfolding nonzero
+any-nonzero zero xs h e = refl
+any-nonzero (suc n) [] h e = absurd (omega arith)
+any-nonzero (suc n) (zero ∷ xs) h e = cc
+any-nonzero (suc n) (suc b ∷ xs) h e = ap suc (any-nonzero n xs (omega arith) (rw eqb-suc-zero at e))

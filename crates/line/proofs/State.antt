@@ -1,8 +1,9 @@
 -- Laws of the reader's state: its count, the states that are read, and the bytes of a frame as they come.
 -- Assumes nothing.
 use mathlib.Core.Path.{◌≡◌, refl, sym, ap, ◌∙◌}
-use mathlib.Core.Bool.{true, and-eq-true_iff}
+use mathlib.Core.Bool.{Bool, true, false, cond, and-eq-true_iff}
 use mathlib.Core.List.{List, [], ◌∷◌, ◌++◌}
+use mathlib.Core.Option.{Option, none, some}
 use Prim.Native.Nat.{ℕ, suc, ◌+◌, ◌-◌, ◌≤◌, ◌<◌}
 use native.Mathlib.Nat.{add-zero}
 use native.Mathlib.Omega.{arith}
@@ -15,9 +16,9 @@ use Rattle.octets.proofs.Conditions.{cond-by}
 use Rattle.octets.proofs.Numbers.{length-bytes}
 use Rattle.octets.proofs.Overlay.{length-overlay, overlay-after, overlay-none, overlay-again, overlay-next, overlay-swap, put-fits}
 use Rattle.octets.proofs.Overlay.{number_put, copied-fits}
-use Rattle.line.specs.Limits.{longest_form}
+use Rattle.line.specs.Limits.{longest_data, longest_form}
 use Rattle.line.specs.ReaderLayout.{frame_offset, overlong, received_count, with_count}
-use Rattle.line.specs.Reader.{reader_length, valid_reader, pushed, pushed_all}
+use Rattle.line.specs.Reader.{reader_length, valid_reader, pushed, pushed_all, data_given_promise}
 
 -- ---- the count
 
@@ -54,6 +55,17 @@ unfolding valid_reader
 valid-ready s e =
     let t = (and-eq-true_iff (leb reader_length (length s)) (leb (received_count s) overlong)).0 e in
     (leb-true _ _ t.0, leb-true _ _ t.1)
+
+-- where a message's data are handed out, they lie within the state
+pub data-given : (s : List ℕ) (n : ℕ) → none ≡ data_given_promise s n → (reader_length ≤ length s) × (n ≤ longest_data)
+unfolding data_given_promise
+data-given s n e = by (valid_reader s) (ltb longest_data n) refl refl e
+  where
+    by : (v t : Bool) → valid_reader s ≡ v → ltb longest_data n ≡ t → ◌≡◌ {A = Option ℕ} none (cond v (cond t (some 9) none) (some 12))
+        → (reader_length ≤ length s) × (n ≤ longest_data)
+    by true true f g h = (cc, cc)
+    by true false f g h = ((valid-ready s f).0, ltb-false _ _ g)
+    by false t f g h = (cc, cc)
 
 pub ready-valid : (s : List ℕ) → Ready s → valid_reader s ≡ true
 unfolding valid_reader

@@ -1,17 +1,16 @@
 -- What the contracts of the decoding in place cite: the length of a COBS form's bytes, and the bytes as far as there are groups.
 -- Assumes nothing: these are definitions.
-use Rattle.std.specs.Prelude.{Bool, false, cond, List, [], ◌∷◌, ◌++◌, ℕ, zero, suc, ◌-◌, ltb, length}
+use Rattle.std.specs.Prelude.{Bool, false, cond, List, [], ◌∷◌, ◌++◌, ℕ, zero, suc, ◌-◌, ltb, length, Option as Optional, None, Some}
 use Rattle.std.proofs.Math.Option.{Option, none, some}
 use Rattle.line.specs.Cobs.{full_code, implied_zero}
-use Rattle.line.specs.declared.cobs.Measured.{Measured}
-use Rattle.line.specs.declared.cobs.Measured.TheVariants.{Bad, Length}
 
 abbrev pub one_if : Bool → ℕ
 one_if holds = cond holds 1 0
 
-unfoldable pub measured : Option (List ℕ) → Measured
-measured none = Bad
-measured (some xs) = Length (length xs)
+-- the length of what a form decodes to, as the code returns it
+unfoldable pub measured : Option (List ℕ) → Optional ℕ
+measured none = None
+measured (some xs) = Some (length xs)
 
 -- `group_bytes` without its failure: the bytes as far as there are groups
 unfoldable pub plain_group : ℕ → Bool → List ℕ → List ℕ

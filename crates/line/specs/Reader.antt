@@ -1,6 +1,6 @@
 -- What each call of the reader answers, and what it leaves in the lent state (document 01, "Reading a request", "When a call says no").
 -- Which byte of the state is where stands in ReaderLayout. Assumes nothing: these are definitions.
-use Rattle.std.specs.Prelude.{Bool, cond, ◌&&◌, List, [], ◌∷◌, ℕ, suc, leb, ltb, eqb, length, replicate}
+use Rattle.std.specs.Prelude.{Bool, cond, ◌&&◌, List, [], ◌∷◌, ℕ, suc, leb, ltb, eqb, length, replicate, ⊤, Result, Ok, Err}
 use Rattle.std.proofs.Math.Option.{Option, none, some}
 use Rattle.octets.specs.Bytes.{run, overlay}
 use Rattle.octets.specs.Places.{LentBytes, Place, place_in}
@@ -9,17 +9,16 @@ use Rattle.line.specs.Numbers.{reason_form, reason_checksum, reason_length, reas
 use Rattle.line.specs.Cobs.{uncobs}
 use Rattle.line.specs.Judge.{LineVerdict, failure, good, judge, judge_received, decoded_received}
 use Rattle.line.specs.ReaderLayout.{overlong, received_count, with_count, received_bytes, with_byte, unpacked, data_offset}
+use Rattle.line.specs.declared.reader.Head.{Head}
+use Rattle.line.specs.declared.reader.Failure.{Failure}
+use Rattle.line.specs.declared.reader.Failure.TheVariants as reason
 use Rattle.line.specs.declared.reader.Answer.{Answer}
 use Rattle.line.specs.declared.reader.Answer.TheVariants as answer
 use Rattle.line.specs.declared.reader.Reading.{Reading}
-use Rattle.line.specs.declared.reader.Collected.{Collected}
-use Rattle.line.specs.declared.reader.Collected.TheVariants as collect-answer
-use Rattle.line.specs.declared.reader.Started.{Started}
-use Rattle.line.specs.declared.reader.Started.TheVariants as start-answer
 use Rattle.line.specs.declared.reader.Unfinished.{Unfinished}
 use Rattle.line.specs.declared.reader.Unfinished.TheVariants as tail-answer
-use Rattle.line.specs.declared.reader.Handed.{Handed}
-use Rattle.line.specs.declared.reader.Handed.TheVariants as handed-answer
+use Rattle.refusals.specs.declared.Refusal.{Refusal}
+use Rattle.refusals.specs.Refusals.{table_number, refusal_of}
 
 -- the state's published length
 abbrev pub reader_length : ℕ
@@ -47,15 +46,25 @@ pub data ReadReport : Type 0 where
   -- the reason, and the request's sequence where the table's reply carries it
   failed : ℕ → Option ℕ → ReadReport
 
-unfoldable pub read_report : Answer → ReadReport
-read_report answer.Refused = refused 12
+abbrev pub message_report : Head → ReadReport
+message_report h = message h.version h.sequence h.command h.length
+
+abbrev pub failure_report : Failure → ReadReport
+failure_report reason.Form = failed reason_form none
+failure_report reason.Length = failed reason_length none
+failure_report (reason.Checksum sequence) = failed reason_checksum (some sequence)
+failure_report (reason.Magic sequence) = failed reason_magic (some sequence)
+
+-- what a frame that is not empty gives
+abbrev pub form_report : Result Head Failure → ReadReport
+form_report (Ok h) = message_report h
+form_report (Err why) = failure_report why
+
+abbrev pub read_report : Answer → ReadReport
 read_report answer.More = more
 read_report answer.Empty = empty
-read_report (answer.Message h) = message h.version h.sequence h.command h.length
-read_report answer.BadForm = failed reason_form none
-read_report answer.BadLength = failed reason_length none
-read_report (answer.BadChecksum sequence) = failed reason_checksum (some sequence)
-read_report (answer.BadMagic sequence) = failed reason_magic (some sequence)
+read_report (answer.Message h) = message_report h
+read_report (answer.Failed why) = failure_report why
 
 -- what an answer reports of a verdict
 unfoldable pub verdict_report : LineVerdict → ReadReport
@@ -102,8 +111,10 @@ pub record ReadOutcome : Type 0 where
   pub answer : ReadReport
   pub state : List ℕ
 
-abbrev pub read_outcome : Reading → List ℕ → ReadOutcome
-read_outcome r s = record { used = r.used; answer = read_report r.answer; state = s }
+-- a call that is refused reads nothing
+abbrev pub read_outcome : Result Reading Refusal → List ℕ → ReadOutcome
+read_outcome (Ok r) s = record { used = r.used; answer = read_report r.answer; state = s }
+read_outcome (Err why) s = record { used = 0; answer = refused (table_number why); state = s }
 
 -- the same, one byte later
 unfoldable pub one_byte_later : ReadOutcome → ReadOutcome
@@ -128,20 +139,19 @@ ahead_of00 (b ∷ bs) = cond (eqb b 0) [] (b ∷ ahead_of00 bs)
 unfoldable pub collect_promise : List ℕ → List ℕ → ReadOutcome
 collect_promise s piece = read_promise s (ahead_of00 piece)
 
-unfoldable pub collect_outcome : Collected → List ℕ → ReadOutcome
-collect_outcome collect-answer.Refused s = record { used = 0; answer = refused 12; state = s }
-collect_outcome (collect-answer.Bytes n) s = record { used = n; answer = more; state = s }
+abbrev pub collect_outcome : Result ℕ Refusal → List ℕ → ReadOutcome
+collect_outcome (Ok n) s = record { used = n; answer = more; state = s }
+collect_outcome (Err why) s = record { used = 0; answer = refused (table_number why); state = s }
 
 -- A call of `start`: it tests the room alone. `refusal` is the table's number, none where the call is carried out.
 pub record ReaderStartOutcome : Type 0 where
   pub refusal : Option ℕ
   pub state : List ℕ
 
-unfoldable pub reader_start_report : Started → Option ℕ
-reader_start_report start-answer.Done = none
-reader_start_report start-answer.Refused = some 12
+abbrev pub reader_start_report : Result ⊤ Refusal → Option ℕ
+reader_start_report = refusal_of
 
-abbrev pub reader_start_outcome : Started → List ℕ → ReaderStartOutcome
+abbrev pub reader_start_outcome : Result ⊤ Refusal → List ℕ → ReaderStartOutcome
 reader_start_outcome r s = record { refusal = reader_start_report r; state = s }
 
 unfoldable pub reader_start_promise : List ℕ → ReaderStartOutcome
@@ -154,10 +164,10 @@ pub data TailReport : Type 0 where
   unfinished : ℕ → TailReport
   longer : TailReport
 
-unfoldable pub tail_report : Unfinished → TailReport
-tail_report tail-answer.Refused = TailReport.refused 12
-tail_report (tail-answer.Bytes n) = unfinished n
-tail_report tail-answer.Longer = longer
+abbrev pub tail_report : Result Unfinished Refusal → TailReport
+tail_report (Ok (tail-answer.Bytes n)) = unfinished n
+tail_report (Ok tail-answer.Longer) = longer
+tail_report (Err why) = TailReport.refused (table_number why)
 
 -- by what has come of the frame
 abbrev pub tail_of : Option (List ℕ) → TailReport
@@ -173,10 +183,8 @@ tail_promise s = cond (valid_reader s) (tail_of (received_of s)) (TailReport.ref
 unfoldable pub data_given_promise : List ℕ → ℕ → Option ℕ
 data_given_promise s n = cond (valid_reader s) (cond (ltb longest_data n) (some 9) none) (some 12)
 
-unfoldable pub data_report : Handed → Option ℕ
-data_report handed-answer.Given = none
-data_report handed-answer.TooLong = some 9
-data_report handed-answer.Refused = some 12
+abbrev pub data_report : Result ⊤ Refusal → Option ℕ
+data_report = refusal_of
 
 -- a refused call hands out an empty part
 unfoldable pub part_of : Option ℕ → List ℕ → List ℕ

@@ -1,29 +1,28 @@
 -- What a call of the writer answers and leaves (document 01, "The message on the wire", "When a call says no").
 -- Assumes nothing: these are definitions.
-use Rattle.std.specs.Prelude.{cond, List, ◌++◌, ℕ, ltb, length}
+use Rattle.std.specs.Prelude.{cond, List, ◌++◌, ℕ, ltb, length, Result, Ok, Err}
 use Rattle.octets.specs.Bytes.{overlay}
 use Rattle.line.specs.Limits.{longest_data}
 use Rattle.line.specs.Message.{Message}
 use Rattle.line.specs.Frame.{frame}
-use Rattle.line.specs.declared.writer.Written.{Written}
-use Rattle.line.specs.declared.writer.Written.TheVariants as answer
+use Rattle.refusals.specs.declared.Refusal.{Refusal}
+use Rattle.refusals.specs.Refusals.{table_number}
 
 -- document 01's number and values of an answer: how many bytes were written, or the table's number
 pub data WriteReport : Type 0 where
   wrote : ℕ → WriteReport
   refused : ℕ → WriteReport
 
-unfoldable pub write_report : Written → WriteReport
-write_report (answer.Done n) = wrote n
-write_report answer.NoRoom = refused 8
-write_report answer.TooLong = refused 9
+abbrev pub write_report : Result ℕ Refusal → WriteReport
+write_report (Ok n) = wrote n
+write_report (Err why) = refused (table_number why)
 
 -- what a call answered, and the room as it left it
 pub record WriteOutcome : Type 0 where
   pub answer : WriteReport
   pub out : List ℕ
 
-abbrev pub write_outcome : Written → List ℕ → WriteOutcome
+abbrev pub write_outcome : Result ℕ Refusal → List ℕ → WriteOutcome
 write_outcome r out = record { answer = write_report r; out = out }
 
 -- the message of a call: its data stand in two parts

@@ -1,15 +1,16 @@
-// COBS: the length of a form, the form itself, the length that a form decodes to, and its decoding in place.
-// Each iteration takes one group, or zeros. Assumes that the bytes named lie within the slices, as each `requires` states.
+// COBS: the length of a form, the form itself, the length that a form decodes to, and its decoding in place. Each iteration takes one
+// group, or zeros, so that no `for` has the steps. Slice, place and end travel as s, i and n: a struct would be taken apart at each index.
+// Assumes that the bytes named lie within the slices, as each `requires` states.
 ghost use Rattle.std.specs.Prelude.{◌≡◌, true, cond, ◌+◌, ◌-◌, ◌≤◌, ◌<◌, min, length, take, drop, set, replicate};
 ghost use Rattle.std.proofs.Math.Seq.{slice};
 ghost use Rattle.octets.specs.Bytes.{run, overlay};
 ghost use Rattle.line.specs.Limits.{longest_group, longest_message};
 ghost use Rattle.line.specs.Runs.{Within, nonzero};
 ghost use Rattle.line.specs.Cobs.{cobs, last_one_after_full, uncobs};
-ghost use Rattle.line.specs.Decoding.{measured, plain, one_if};
+ghost use Rattle.line.specs.Decoding.{measured, plain};
 
 use crate::limits::LONGEST_GROUP;
-use crate::scan::{BLOCK, alike, copy, copy_run, move_down, nonzero_run, put_alike, smaller};
+use crate::scan::{BLOCK, block_alike, copy_run, next_alike, nonzero_run};
 
 // Up to this length a message's groups are searched and copied in one loop, byte by byte.
 const BYTE_BY_BYTE: u32 = 64;
@@ -23,15 +24,12 @@ pub(crate) fn form_length(s: &[u8], n: u32) -> u32
     let mut i: u32 = 0;
     let mut o: u32 = 0;
     loop {
-        if alike(0, s, i, BLOCK, n) {
-            i += BLOCK;
-            o += BLOCK;
-        } else if alike(0, s, i, 1, n) {
-            i += 1;
-            o += 1;
+        let zeros = next_alike(0, s, i, n);
+        if 0 < zeros {
+            i += zeros;
+            o += zeros;
         } else {
-            let most = smaller(LONGEST_GROUP, n - i);
-            let k = nonzero_run(s, i, most);
+            let k = group_length(s, i, n);
             i += k;
             o += k + 1;
             if i == n {
@@ -82,55 +80,43 @@ fn put_codes(s: &[u8], i: u32, n: u32, out: &mut [u8], o: u32) -> u32
     ensures { (i + result ≤ n) × (run i result s.now ≡ replicate result 0)
         × (out.new ≡ overlay o (replicate result 1) out.old) }
 {
-    if alike(0, s, i, BLOCK, n) {
-        put_alike(1, out, o, BLOCK);
+    if block_alike(0, s, i, n) {
+        out[o as usize..(o + BLOCK) as usize].fill(1);
         return BLOCK;
     }
-    let mut k: u32 = 0;
-    while k < n - i {
+    for k in 0..n - i {
         if s[(i + k) as usize] != 0 {
             return k;
         }
         out[(o + k) as usize] = 1;
-        k += 1;
     }
-    k
+    n - i
+}
+
+// How many bytes the next group has, ahead of n.
+fn group_length(s: &[u8], i: u32, n: u32) -> u32
+    requires { (i ≤ n) × (n ≤ length s.now) }
+    ensures inside { (i + result ≤ n) × (result ≤ longest_group) }
+    ensures value { result ≡ length (nonzero (min longest_group (n - i)) (drop i s.now)) }
+{
+    let most = LONGEST_GROUP.min(n - i);
+    nonzero_run(&s[i as usize..(i + most) as usize]) as u32
 }
 
 // Copies the bytes of the next group, ahead of n, and says how many.
 fn copy_group(s: &[u8], i: u32, n: u32, out: &mut [u8], at: u32) -> u32
     requires i_le_n { (i ≤ n) × (n ≤ length s.now) }
     requires within { Within at (n - i) out.old }
-    ensures { (result ≡ length (nonzero (min longest_group (n - i)) (drop i s.now)))
-        × (out.new ≡ overlay at (run i result s.now) out.old) }
+    ensures inside { (i + result ≤ n) × (result ≤ longest_group) }
+    ensures value { result ≡ length (nonzero (min longest_group (n - i)) (drop i s.now)) }
+    ensures out_after { out.new ≡ overlay at (run i result s.now) out.old }
 {
-    let most = smaller(LONGEST_GROUP, n - i);
     if n <= BYTE_BY_BYTE {
-        return copy_run(s, i, most, out, at);
+        return copy_run(s, i, LONGEST_GROUP.min(n - i), out, at);
     }
-    let k = nonzero_run(s, i, most);
-    copy(s, i, k, out, at);
+    let k = group_length(s, i, n);
+    out[at as usize..(at + k) as usize].copy_from_slice(&s[i as usize..(i + k) as usize]);
     k
-}
-
-#[derive(Drop)]
-pub(crate) enum Measured {
-    Bad,
-    Length(usize),
-}
-
-// A code byte as a number.
-fn code(b: u8) -> u32
-    ensures { (result ≡ b) × (result < 256) }
-{
-    b as u32
-}
-
-// How many zeros a group holds.
-fn held(zero: bool) -> u32
-    ensures { (result ≡ one_if zero) × (result ≤ 1) }
-{
-    if zero { 1 } else { 0 }
 }
 
 // A zero at o, where one is held.
@@ -162,7 +148,7 @@ fn last_one_after_full(s: &[u8], n: u32, i: u32, c: u32) -> bool
 
 // The length that the first n bytes of s decode to, unless they are no COBS form.
 // It is one less for each full group, and for the last group's zero.
-pub(crate) fn decoded_length(s: &[u8], n: u32) -> Measured
+pub(crate) fn decoded_length(s: &[u8], n: u32) -> Option<usize>
     requires { n ≤ length s.now }
     ensures { result ≡ measured (uncobs (take n s.now)) }
 {
@@ -170,30 +156,27 @@ pub(crate) fn decoded_length(s: &[u8], n: u32) -> Measured
     let mut zero = false;
     let mut i: u32 = 0;
     while i < n {
-        if alike(1, s, i, 1, n) {
+        let ones = next_alike(1, s, i, n);
+        if 0 < ones {
+            i += ones;
             zero = true;
-            if alike(1, s, i, BLOCK, n) {
-                i += BLOCK;
-            } else {
-                i += 1;
-            }
         } else {
-            let c = code(s[i as usize]);
+            let c = u32::from(s[i as usize]);
             if c == 0 {
-                return Measured::Bad;
+                return None;
             }
             if n - i < c {
-                return Measured::Bad;
+                return None;
             }
             if last_one_after_full(s, n, i, c) {
-                return Measured::Bad;
+                return None;
             }
             i += c;
             zero = c <= LONGEST_GROUP;
-            full += held(!zero);
+            full += u32::from(!zero);
         }
     }
-    Measured::Length((n - full - held(zero)) as usize)
+    Some((n - full - u32::from(zero)) as usize)
 }
 
 // The first n bytes of s decoded to the start of s, where they are a COBS form.
@@ -210,12 +193,12 @@ pub(crate) fn decode(s: &mut [u8], n: u32)
             o += ones;
             i += ones;
         } else {
-            let c = code(s[i as usize]);
+            let c = u32::from(s[i as usize]);
             i += 1;
             put_held(s, o, zero);
-            o += held(zero);
-            let k = smaller(less_one(c), n - i);
-            move_down(s, i, o, k);
+            o += u32::from(zero);
+            let k = c.saturating_sub(1).min(n - i);
+            s.copy_within(i as usize..(i + k) as usize, o as usize);
             o += k;
             i += k;
             zero = c <= LONGEST_GROUP; // put ahead of the next group
@@ -234,24 +217,15 @@ fn put_zeros(zero: bool, s: &mut [u8], i: u32, o: u32, n: u32) -> u32
     if !zero {
         return 0;
     }
-    if alike(1, s, i, BLOCK, n) {
-        put_alike(0, s, o, BLOCK);
+    if block_alike(1, s, i, n) {
+        s[o as usize..(o + BLOCK) as usize].fill(0);
         return BLOCK;
     }
-    let mut k: u32 = 0;
-    while k < n - i {
+    for k in 0..n - i {
         if s[(i + k) as usize] != 1 {
             return k;
         }
         s[(o + k) as usize] = 0;
-        k += 1;
     }
-    k
-}
-
-// One less, and 0 at 0.
-fn less_one(c: u32) -> u32
-    ensures { result ≡ c - 1 }
-{
-    if c == 0 { 0 } else { c - 1 }
+    n - i
 }

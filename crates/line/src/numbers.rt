@@ -1,5 +1,5 @@
 // The numbers that both ends put into messages (documents 01 and 02); specs/Numbers.antt has the same.
-// Assumes nothing: the line layer itself takes any version, sequence and command.
+// Assumes nothing: the line layer itself takes any version, sequence and command, so that each is a number here.
 
 // In the second version a lookup's reply carries the edition.
 pub const FIRST_VERSION: u32 = 1;

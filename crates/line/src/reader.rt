@@ -9,15 +9,15 @@ ghost use Rattle.line.specs.Runs.{nonzero};
 ghost use Rattle.line.specs.Decoding.{measured, plain};
 ghost use Rattle.line.specs.Judge.{judge_form};
 ghost use Rattle.line.specs.ReaderLayout.{frame_offset, overlong, received_count, with_count};
-ghost use Rattle.line.specs.Reader.{reader_length, valid_reader, read_report};
+ghost use Rattle.line.specs.Reader.{reader_length, valid_reader, form_report, read_report};
 ghost use Rattle.line.specs.Reader.{verdict_report, pushed_all, frame_outcome, finish_form, finish, read_outcome, read_promise};
 ghost use Rattle.line.specs.Reader.{collect_outcome, collect_promise, reader_start_outcome, reader_start_promise, tail_report};
 ghost use Rattle.line.specs.Reader.{tail_promise};
 ghost use Rattle.line.specs.Reader.{data_report, data_given_promise, data_promise, data_place};
 
-use crate::cobs::Measured;
 use crate::scan::{copy_run, nonzero_run};
 use crate::{cobs, limits, sums};
+use refusals::Refusal;
 
 const FRAME_OFFSET: usize = 2;
 
@@ -30,13 +30,10 @@ const OVERLONG: usize = limits::LONGEST_FORM + 1;
 // The longest piece that `collect` takes byte by byte.
 const SHORT_PIECE: usize = 64;
 
-// The longest part of a piece that is searched at once.
-const PART: usize = 65536;
-
 const DATA_OFFSET: usize = FRAME_OFFSET + limits::HEADER_LENGTH;
 
 // A message that was handed out; its data lie in the state.
-#[derive(Clone, Copy)]
+#[derive(Clone, Copy, Debug, PartialEq, Eq)]
 pub struct Head {
     pub version: u32,
     pub sequence: u64,
@@ -44,108 +41,98 @@ pub struct Head {
     pub length: usize,
 }
 
+// Why a frame fails; with the frame's sequence where it has a message's length.
+#[derive(Clone, Copy, Debug, PartialEq, Eq)]
+pub enum Failure {
+    Form,
+    Length,
+    Checksum(u64),
+    Magic(u64),
+}
+
 // What a call of `read` answers; `read_report` in specs/Reader.antt gives document 01's numbers and values.
-#[derive(Clone, Copy)]
+#[derive(Clone, Copy, Debug, PartialEq, Eq)]
 pub enum Answer {
-    Refused,
     More,
     Empty,
     Message(Head),
-    BadForm,
-    BadLength,
-    BadChecksum(u64),
-    BadMagic(u64),
+    Failed(Failure),
 }
 
 // How many bytes of the piece a call of `read` read, and what it says.
-#[derive(Clone, Copy)]
+#[derive(Clone, Copy, Debug, PartialEq, Eq)]
 pub struct Reading {
     pub used: usize,
     pub answer: Answer,
 }
 
-// What a call of `collect` answers.
-#[derive(Clone, Copy)]
-pub enum Collected {
-    Refused,
-    Bytes(usize),
-}
-
-// What a call of `start` answers.
-#[derive(Clone, Copy)]
-pub enum Started {
-    Done,
-    Refused,
-}
-
-// What a call of `tail` answers.
-#[derive(Clone, Copy)]
+// How many bytes of an unfinished frame have come, or that they are more than the longest form has.
+#[derive(Clone, Copy, Debug, PartialEq, Eq)]
 pub enum Unfinished {
-    Refused,
     Bytes(usize),
     Longer,
 }
 
-// What a call of `message_data_given` answers.
-#[derive(Clone, Copy)]
-pub enum Handed {
-    Given,
-    TooLong,
-    Refused,
-}
-
 // Begins a fresh reader in a room of any contents.
-pub fn start(state: &mut [u8]) -> Started
+pub fn start(state: &mut [u8]) -> Result<(), Refusal>
     ensures { reader_start_outcome result state.new ≡ reader_start_promise state.old }
 {
     if state.len() < STATE_LENGTH {
-        return Started::Refused;
+        return Err(Refusal::BadState);
     }
     octets::clear(state, 0, STATE_LENGTH);
-    Started::Done
+    Ok(())
 }
 
 // Reads a piece to its end, or up to and with its first 00.
-pub fn read(state: &mut [u8], piece: &[u8]) -> Reading
+pub fn read(state: &mut [u8], piece: &[u8]) -> Result<Reading, Refusal>
     ensures { read_outcome result state.new ≡ read_promise state.old piece.now }
 {
     if !is_valid(state) {
-        return Reading {
-            used: 0,
-            answer: Answer::Refused,
-        };
+        return Err(Refusal::BadState);
     }
-    let n = ahead(piece);
+    let n = nonzero_run(piece);
     append(state, piece, n);
     if n == piece.len() {
-        return Reading {
+        return Ok(Reading {
             used: n,
             answer: Answer::More,
-        };
+        });
     }
     let answer = finish_frame(state);
-    Reading {
+    Ok(Reading {
         used: n + 1,
         answer,
-    }
+    })
 }
 
 // Reads a piece's bytes ahead of its first 00, and leaves that 00 and what is behind it.
-pub fn collect(state: &mut [u8], piece: &[u8]) -> Collected
+pub fn collect(state: &mut [u8], piece: &[u8]) -> Result<usize, Refusal>
     ensures { collect_outcome result state.new ≡ collect_promise state.old piece.now }
 {
     if !is_valid(state) {
-        return Collected::Refused;
+        return Err(Refusal::BadState);
     }
     let have = get_count(state);
-    if piece.len() <= SHORT_PIECE {
-        if have + piece.len() <= limits::LONGEST_FORM {
-            return Collected::Bytes(append_short(state, piece, have));
-        }
+    if piece.len() <= SHORT_PIECE && have + piece.len() <= limits::LONGEST_FORM {
+        return Ok(append_short(state, piece, have));
     }
-    let n = ahead(piece);
-    let reading = read(state, &piece[..n]);
-    Collected::Bytes(reading.used)
+    let n = nonzero_run(piece);
+    append(state, piece, n);
+    Ok(n)
+}
+
+// Whether `message_data` hands out what was asked.
+pub fn message_data_given(state: &[u8], count: usize) -> Result<(), Refusal>
+    ensures { data_report result ≡ data_given_promise state.now count }
+{
+    if !is_valid(state) {
+        return Err(Refusal::BadState);
+    }
+    if limits::LONGEST_DATA < count {
+        return Err(Refusal::TooLong);
+    }
+    Ok(())
 }
 
 // The data of the message that `read` handed out with this length; an empty part where `message_data_given` refuses.
@@ -153,46 +140,30 @@ pub fn message_data<'a>(state: &'a [u8], count: usize) -> &'a [u8]
     ensures result_value { result.now ≡ data_promise state.now count }
     ensures ref_ptr_value { result.ref_ptr ≡ data_place state.entry count }
 {
-    if !is_valid(state) {
-        return &state[..0];
+    match message_data_given(state, count) {
+        Ok(()) => &state[DATA_OFFSET..DATA_OFFSET + count],
+        Err(_) => &state[..0],
     }
-    if limits::LONGEST_DATA < count {
-        return &state[..0];
-    }
-    &state[DATA_OFFSET..DATA_OFFSET + count]
-}
-
-// Whether `message_data` hands out what was asked.
-pub fn message_data_given(state: &[u8], count: usize) -> Handed
-    ensures { data_report result ≡ data_given_promise state.now count }
-{
-    if !is_valid(state) {
-        return Handed::Refused;
-    }
-    if limits::LONGEST_DATA < count {
-        return Handed::TooLong;
-    }
-    Handed::Given
 }
 
 // How many bytes of an unfinished frame have come.
-pub fn tail(state: &[u8]) -> Unfinished
+pub fn tail(state: &[u8]) -> Result<Unfinished, Refusal>
     ensures { tail_report result ≡ tail_promise state.now }
 {
     if !is_valid(state) {
-        return Unfinished::Refused;
+        return Err(Refusal::BadState);
     }
     let n = get_count(state);
     if limits::LONGEST_FORM < n {
-        return Unfinished::Longer;
+        return Ok(Unfinished::Longer);
     }
-    Unfinished::Bytes(n)
+    Ok(Unfinished::Bytes(n))
 }
 
 fn get_count(state: &[u8]) -> usize
     ensures { (result ≡ received_count state.now) × (result < 65536) }
 {
-    octets::read_u16(state, 0) as usize
+    usize::from(octets::read_u16(state, 0))
 }
 
 fn set_count(state: &mut [u8], n: usize)
@@ -207,26 +178,7 @@ fn set_count(state: &mut [u8], n: usize)
 pub fn is_valid(state: &[u8]) -> bool
     ensures { result ≡ valid_reader state.now }
 {
-    if state.len() < STATE_LENGTH {
-        return false;
-    }
-    get_count(state) <= OVERLONG
-}
-
-// How many bytes of a piece stand ahead of its first 00. A piece of any length is searched part by part, since a search counts in 32 bits.
-fn ahead(piece: &[u8]) -> usize
-    ensures { result ≡ length (nonzero (length piece.now) piece.now) }
-{
-    let mut at = 0;
-    while at < piece.len() {
-        let n = octets::min(PART, piece.len() - at) as u32;
-        let k = nonzero_run(&piece[at..], 0, n);
-        at += k as usize;
-        if k < n {
-            return at;
-        }
-    }
-    at
+    STATE_LENGTH <= state.len() && get_count(state) <= OVERLONG
 }
 
 // The first n bytes of a piece, none of them zero, as far as they fit.
@@ -288,13 +240,16 @@ fn finish_frame(state: &mut [u8]) -> Answer
         return Answer::Empty;
     }
     if limits::LONGEST_FORM < n {
-        return Answer::BadForm;
+        return Answer::Failed(Failure::Form);
     }
-    finish_form(state, n as u32)
+    match finish_form(state, n as u32) {
+        Ok(head) => Answer::Message(head),
+        Err(why) => Answer::Failed(why),
+    }
 }
 
 // The length that the frame's n bytes decode to, unless they are no COBS form.
-fn frame_length(state: &[u8], n: u32) -> Measured
+fn frame_length(state: &[u8], n: u32) -> Option<usize>
     requires { frame_offset + n ≤ length state.now }
     ensures { result ≡ measured (uncobs (run frame_offset n state.now)) }
 {
@@ -310,46 +265,37 @@ fn decode_frame(state: &mut [u8], n: u32)
 }
 
 // A frame of n bytes.
-fn finish_form(state: &mut [u8], n: u32) -> Answer
+fn finish_form(state: &mut [u8], n: u32) -> Result<Head, Failure>
     requires reader_length_in_bounds { reader_length ≤ length state.old }
     requires n_le_longest_form { n ≤ longest_form }
-    ensures { frame_outcome (read_report result) state.new
-        ≡ finish_form (run frame_offset n state.old) state.old }
+    ensures { frame_outcome (form_report result) state.new ≡ finish_form (run frame_offset n state.old) state.old }
 {
-    let m = frame_length(state, n);
-    match m {
-        Measured::Bad => Answer::BadForm,
-        Measured::Length(k) => {
-            if k < limits::SHORTEST_MESSAGE {
-                return Answer::BadLength;
-            }
-            if limits::LONGEST_MESSAGE < k {
-                return Answer::BadLength;
-            }
-            decode_frame(state, n);
-            inspect(state, k)
-        }
+    let k = frame_length(state, n).ok_or(Failure::Form)?;
+    if k < limits::SHORTEST_MESSAGE || limits::LONGEST_MESSAGE < k {
+        return Err(Failure::Length);
     }
+    decode_frame(state, n);
+    inspect(state, k)
 }
 
 // A decoded message of k bytes.
-fn inspect(state: &[u8], k: usize) -> Answer
+fn inspect(state: &[u8], k: usize) -> Result<Head, Failure>
     requires reader_length_in_bounds { reader_length ≤ length state.now }
     requires shortest_message_le_k { shortest_message ≤ k }
     requires k_le_longest_message { k ≤ longest_message }
-    ensures { read_report result ≡ verdict_report (judge_form (some (run frame_offset k state.now))) }
+    ensures { form_report result ≡ verdict_report (judge_form (some (run frame_offset k state.now))) }
 {
     let message = &state[FRAME_OFFSET..FRAME_OFFSET + k];
     let sequence = octets::read_u64(message, 8);
     if octets::read_u16(message, k - limits::CHECKSUM_LENGTH)
         != sums::checksum_of_first(message, k - limits::CHECKSUM_LENGTH)
     {
-        return Answer::BadChecksum(sequence);
+        return Err(Failure::Checksum(sequence));
     }
     if octets::read_u32(message, 0) != limits::MAGIC {
-        return Answer::BadMagic(sequence);
+        return Err(Failure::Magic(sequence));
     }
-    Answer::Message(Head {
+    Ok(Head {
         version: octets::read_u32(message, 4),
         sequence,
         command: octets::read_u8(message, 16),

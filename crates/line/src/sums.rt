@@ -13,23 +13,10 @@ const ROWS: usize = 16;
 const BLOCK: usize = ROWS * COLUMNS;
 
 // The two sums.
-#[derive(Drop)]
+#[derive(Clone, Copy)]
 struct Sums {
     first: u32,
     second: u32,
-}
-
-fn byte(b: u8) -> u16
-    ensures { (result ≡ b) × (result < 256) }
-{
-    b as u16
-}
-
-// A column's sum, to be added to others.
-fn column_sum(x: u16) -> u32
-    ensures { (result ≡ x) × (result < 65536) }
-{
-    x as u32
 }
 
 // The row of bytes from an offset on.
@@ -38,10 +25,8 @@ fn row(body: &[u8], at: usize) -> [u16; COLUMNS]
     ensures { (result ≡ run at columns body.now) × (length result ≡ columns) × AtMost 255 result }
 {
     let mut row = [0u16; COLUMNS];
-    let mut i = 0;
-    while i < COLUMNS {
-        row[i] = byte(body[at + i]);
-        i += 1;
+    for (i, b) in body[at..at + COLUMNS].iter().enumerate() {
+        row[i] = u16::from(*b);
     }
     row
 }
@@ -51,10 +36,8 @@ fn add(sums: &mut [u16; COLUMNS], row: &[u16; COLUMNS])
     requires { Addable sums.old row.now }
     ensures { sums.new ≡ added_row row.now sums.old }
 {
-    let mut i = 0;
-    while i < COLUMNS {
-        sums[i] = sums[i] + row[i];
-        i += 1;
+    for (i, x) in row.iter().enumerate() {
+        sums[i] += *x;
     }
 }
 
@@ -66,11 +49,9 @@ fn row_sums(row: &[u16; COLUMNS]) -> Sums
 {
     let mut sum: u32 = 0;
     let mut weighted: u32 = 0;
-    let mut i = 0;
-    while i < COLUMNS {
-        sum += column_sum(row[i]);
+    for x in row {
+        sum += u32::from(*x);
         weighted += sum;
-        i += 1;
     }
     Sums {
         first: sum,
@@ -88,12 +69,10 @@ fn block(body: &[u8], at: usize, sums: Sums) -> Sums
 {
     let mut firsts = [0u16; COLUMNS];
     let mut seconds = [0u16; COLUMNS];
-    let mut i = 0;
-    while i < ROWS {
+    for i in 0..ROWS {
         let bytes = row(body, at + i * COLUMNS);
         add(&mut firsts, &bytes);
         add(&mut seconds, &firsts);
-        i += 1;
     }
     let one = row_sums(&firsts);
     let two = row_sums(&seconds);
@@ -114,12 +93,9 @@ fn rest(body: &[u8], at: usize, sums: Sums) -> u16
 {
     let mut first = sums.first;
     let mut second = sums.second;
-    let mut i = at;
-    while i < body.len() {
-        let b = octets::wide(body[i]) as u32;
-        first += b;
+    for b in &body[at..] {
+        first += u32::from(*b);
         second += first;
-        i += 1;
     }
     (second % 255 * 256 + first % 255) as u16
 }
@@ -132,12 +108,11 @@ pub fn checksum(body: &[u8]) -> u16
         first: 0,
         second: 0,
     };
-    let mut at = 0;
-    while BLOCK <= body.len() - at {
-        sums = block(body, at, sums);
-        at += BLOCK;
+    let blocks = body.len() / BLOCK;
+    for i in 0..blocks {
+        sums = block(body, i * BLOCK, sums);
     }
-    rest(body, at, sums)
+    rest(body, blocks * BLOCK, sums)
 }
 
 // The checksum of the first n bytes of s, or of all where there are fewer.

@@ -7,21 +7,14 @@ ghost use Rattle.line.specs.Cobs.{cobs};
 ghost use Rattle.line.specs.Writer.{message_of_parts, write_outcome, write_promise, write_into};
 
 use crate::{cobs, limits, sums};
+use refusals::Refusal;
 
 // A message with few data is put together in an array of its own.
 const SHORT_MESSAGE: usize = 64;
 
 const SHORT_DATA: usize = SHORT_MESSAGE - limits::SHORTEST_MESSAGE;
 
-// What a call of `write` answers: how many bytes it wrote, or why it wrote none.
-#[derive(Clone, Copy)]
-pub enum Written {
-    Done(usize),
-    NoRoom,
-    TooLong,
-}
-
-// Writes the frame of a message whose data are head and then rest.
+// Writes the frame of a message whose data are head and then rest, and says how many bytes it has.
 pub fn write(
     version: u32,
     sequence: u64,
@@ -29,15 +22,15 @@ pub fn write(
     head: &[u8],
     rest: &[u8],
     out: &mut [u8],
-) -> Written
+) -> Result<usize, Refusal>
     ensures { write_outcome result out.new
         ≡ write_promise (message_of_parts version sequence command head.now rest.now) out.old }
 {
     if limits::LONGEST_DATA < head.len() {
-        return Written::TooLong;
+        return Err(Refusal::TooLong);
     }
     if limits::LONGEST_DATA - head.len() < rest.len() {
-        return Written::TooLong;
+        return Err(Refusal::TooLong);
     }
     if head.len() + rest.len() <= SHORT_DATA {
         let mut message = [0u8; SHORT_MESSAGE];
@@ -47,7 +40,8 @@ pub fn write(
     write_by(version, sequence, command, head, rest, &mut message, out)
 }
 
-// The same with an array that the message is put together in.
+// The same with an array that the message is put together in. `assemble` takes the parts one by one: a record of them would be made and
+// taken apart at once.
 fn write_by(
     version: u32,
     sequence: u64,
@@ -56,7 +50,7 @@ fn write_by(
     rest: &[u8],
     m: &mut [u8],
     out: &mut [u8],
-) -> Written
+) -> Result<usize, Refusal>
     requires rest_len_bound { length head.now + length rest.now ≤ longest_data }
     requires rest_in_bounds { shortest_message + length head.now + length rest.now ≤ length m.old }
     ensures { write_outcome result out.new
@@ -94,17 +88,17 @@ fn assemble(
 }
 
 // The frame of the message in the first n bytes of m.
-fn send(m: &[u8], n: usize, out: &mut [u8]) -> Written
+fn send(m: &[u8], n: usize, out: &mut [u8]) -> Result<usize, Refusal>
     requires n_le_longest_message { n ≤ longest_message }
     requires n_in_bounds { n ≤ length m.now }
     ensures { write_outcome result out.new ≡ write_into (cobs (take n m.now) ++ (0 ∷ [])) out.old }
 {
     if !has_room(m, n, out.len()) {
-        return Written::NoRoom;
+        return Err(Refusal::NoRoom);
     }
     let k = cobs::encode(m, n as u32, out) as usize;
     out[k] = 0;
-    Written::Done(k + 1)
+    Ok(k + 1)
 }
 
 // Whether a room is long enough for the form and its 00. The form is measured only where the room could be too small for it.

@@ -3,7 +3,8 @@
 use crate::print;
 use line::{reader, sums, writer};
 use std::io;
-use text_lines::{fields, pieces, streams};
+use text_lines::buffers::Buffer;
+use text_lines::{fields, streams};
 
 const STATE_ROOM: usize = 4200;
 
@@ -15,74 +16,85 @@ const STATE_FILL: u8 = 0xa5;
 
 const OUT_FILL: u8 = 0xee;
 
-// The lent state, the piece and how many bytes it has, the lent output and how many bytes the last write put out.
+// The lent state, the piece, and the lent output, of which the last write put out the first bytes.
 #[derive(Clone, Copy)]
 pub(crate) struct Case {
-    pub state: [u8; STATE_ROOM],
-    pub piece: [u8; PIECE_ROOM],
-    pub piece_count: usize,
-    pub out: [u8; OUT_ROOM],
-    pub written: usize,
+    state: [u8; STATE_ROOM],
+    piece: Buffer<PIECE_ROOM>,
+    out: Buffer<OUT_ROOM>,
 }
 
-// A state and an output of known contents, and no piece.
-pub(crate) fn fresh() -> Case {
-    Case {
-        state: [STATE_FILL; STATE_ROOM],
-        piece: [0; PIECE_ROOM],
-        piece_count: 0,
-        out: [OUT_FILL; OUT_ROOM],
-        written: 0,
-    }
-}
-
-// One line.
-pub(crate) fn command(rt: &impl Print, line: &[u8], now: Case) -> io::Result<Case> {
-    let key = fields::key(line);
-    match key {
-        b'=' => begin(rt, line),
-        b'+' | b'*' => Ok(add(line, now)),
-        b'w' => write(rt, line, now),
-        b'r' | b'c' | b'b' | b'a' | b'o' | b'k' => use_up(rt, line, key, now),
-        b'l' | b'e' | b's' | b'i' => change(rt, line, key, now),
-        _ => {
-            look(rt, key, fields::count(line, 1), &now.state)?;
-            Ok(now)
+impl Case {
+    // A state and an output of known contents, and no piece.
+    pub(crate) fn fresh() -> Case {
+        Case {
+            state: [STATE_FILL; STATE_ROOM],
+            piece: Buffer::filled(0, 0),
+            out: Buffer::filled(OUT_FILL, 0),
         }
     }
-}
 
-// A fresh case, with its name and a reader.
-fn begin(rt: &impl Print, line: &[u8]) -> io::Result<Case> {
-    streams::name(rt, line)?;
-    let mut next = fresh();
-    let mut state = next.state;
-    reader::start(&mut state);
-    next.state = state;
-    Ok(next)
-}
+    // One line.
+    pub(crate) fn command(&mut self, rt: &impl Print, line: &[u8]) -> io::Result<()> {
+        let key = fields::key(line);
+        match key {
+            b'=' => self.begin(rt, line),
+            b'+' | b'*' => {
+                self.piece.add(line);
+                Ok(())
+            }
+            b'w' => self.write(rt, line),
+            b'r' | b'c' | b'b' | b'a' | b'o' | b'k' => self.use_up(rt, line, key),
+            b'l' | b'e' | b's' | b'i' => self.change(rt, line, key),
+            _ => look(rt, key, fields::count(line, 1), &self.state),
+        }
+    }
 
-fn add(line: &[u8], now: Case) -> Case {
-    let mut next = now;
-    let mut piece = now.piece;
-    let n = pieces::add(line, &mut piece, now.piece_count);
-    next.piece = piece;
-    next.piece_count = n;
-    next
-}
+    // A fresh case, with its name and a reader.
+    fn begin(&mut self, rt: &impl Print, line: &[u8]) -> io::Result<()> {
+        streams::name(rt, line)?;
+        *self = Case::fresh();
+        let _ = reader::start(&mut self.state);
+        Ok(())
+    }
 
-// A message with the piece as its data, by the line's fields.
-fn write(rt: &impl Print, line: &[u8], now: Case) -> io::Result<Case> {
-    let mut next = now;
-    let piece = now.piece;
-    let mut out = now.out;
-    let data = octets::part(&piece, 0, now.piece_count);
-    let written = write_data(rt, line, data, &mut out)?;
-    streams::digest(rt, &out)?;
-    next.out = out;
-    next.written = written;
-    next.piece_count = 0;
-    Ok(next)
+    // A message with the piece as its data, by the line's fields.
+    fn write(&mut self, rt: &impl Print, line: &[u8]) -> io::Result<()> {
+        let Case { piece, out, .. } = self;
+        out.count = write_data(rt, line, piece.used(), &mut out.bytes)?;
+        streams::digest(rt, &out.bytes)?;
+        piece.count = 0;
+        Ok(())
+    }
+
+    // A command that empties the piece, or reads what was written.
+    fn use_up(&mut self, rt: &impl Print, line: &[u8], key: u8) -> io::Result<()> {
+        let Case { state, piece, out } = self;
+        if key == b'o' {
+            read_whole(rt, state, out.used())?;
+        } else {
+            use_piece(rt, line, key, state, piece.used())?;
+        }
+        piece.count = 0;
+        Ok(())
+    }
+
+    // A command that changes the state and leaves the piece; a call is lent the state's first bytes.
+    fn change(&mut self, rt: &impl Print, line: &[u8], key: u8) -> io::Result<()> {
+        let Case { state, piece, .. } = self;
+        let lent = &mut state[..fields::count(line, 1).min(STATE_ROOM)];
+        match key {
+            b'l' => {
+                read_once(rt, lent, piece.used())?;
+            }
+            b'e' => {
+                collect_once(rt, lent, piece.used())?;
+            }
+            b's' => print::starting(rt, reader::start(lent))?,
+            _ => octets::write_u16(state, 0, fields::decimal_u16(line, 1)),
+        }
+        Ok(())
+    }
 }
 
 // The version, sequence and command are the line's first three fields.
@@ -91,41 +103,17 @@ fn write_data(rt: &impl Print, line: &[u8], data: &[u8], out: &mut [u8]) -> io::
     let version = fields::hex_u32(line, 1);
     let sequence = fields::hex(line, 2);
     let command = fields::hex_u8(line, 3);
-    let cut = octets::min(fields::count(line, 4), data.len());
-    let end = octets::min(fields::count(line, 5), out.len());
-    print::writing(
-        rt,
-        writer::write(
-            version,
-            sequence,
-            command,
-            &data[0..cut],
-            &data[cut..],
-            &mut out[0..end],
-        ),
-    )
-}
-
-// A command that empties the piece, or reads what was written.
-fn use_up(rt: &impl Print, line: &[u8], key: u8, now: Case) -> io::Result<Case> {
-    let mut next = now;
-    let mut state = now.state;
-    let piece = now.piece;
-    let out = now.out;
-    if key == b'o' {
-        read_whole(rt, &mut state, octets::part(&out, 0, now.written))?;
-    } else {
-        use_piece(
-            rt,
-            line,
-            key,
-            &mut state,
-            octets::part(&piece, 0, now.piece_count),
-        )?;
-    }
-    next.state = state;
-    next.piece_count = 0;
-    Ok(next)
+    let cut = fields::count(line, 4).min(data.len());
+    let room = fields::count(line, 5).min(out.len());
+    let written = writer::write(
+        version,
+        sequence,
+        command,
+        &data[0..cut],
+        &data[cut..],
+        &mut out[..room],
+    );
+    print::counting(rt, b" wrote", written)
 }
 
 fn use_piece(
@@ -137,7 +125,7 @@ fn use_piece(
 ) -> io::Result<()> {
     let n = fields::count(line, 1);
     match key {
-        b'k' => streams::hex(rt, sums::checksum(piece) as u64, 4),
+        b'k' => streams::hex(rt, u64::from(sums::checksum(piece)), 4),
         b'b' => read_by(rt, state, piece, 1),
         b'a' => {
             let taken = collect_once(rt, state, piece)?;
@@ -149,42 +137,6 @@ fn use_piece(
         }
         _ => read_whole(rt, state, piece),
     }
-}
-
-// A command that changes the state and leaves the piece.
-fn change(rt: &impl Print, line: &[u8], key: u8, now: Case) -> io::Result<Case> {
-    let mut next = now;
-    let mut state = now.state;
-    let piece = now.piece;
-    let n = fields::count(line, 1);
-    match key {
-        b'l' => read_lent(rt, &mut state, n, octets::part(&piece, 0, now.piece_count))?,
-        b'e' => collect_lent(rt, &mut state, n, octets::part(&piece, 0, now.piece_count))?,
-        b's' => start_lent(rt, &mut state, n)?,
-        _ => octets::write_u16(&mut state, 0, fields::decimal_u16(line, 1)),
-    }
-    next.state = state;
-    Ok(next)
-}
-
-// One call of read that is lent the first n bytes of the state.
-fn read_lent(rt: &impl Print, state: &mut [u8], n: usize, piece: &[u8]) -> io::Result<()> {
-    let end = octets::min(n, state.len());
-    read_once(rt, &mut state[0..end], piece)?;
-    Ok(())
-}
-
-// One call of collect likewise.
-fn collect_lent(rt: &impl Print, state: &mut [u8], n: usize, piece: &[u8]) -> io::Result<()> {
-    let end = octets::min(n, state.len());
-    collect_once(rt, &mut state[0..end], piece)?;
-    Ok(())
-}
-
-// One call of start likewise.
-fn start_lent(rt: &impl Print, state: &mut [u8], n: usize) -> io::Result<()> {
-    let end = octets::min(n, state.len());
-    print::starting(rt, reader::start(&mut state[0..end]))
 }
 
 // A command that changes nothing.
@@ -209,16 +161,21 @@ fn hand_out(rt: &impl Print, state: &[u8], n: usize) -> io::Result<()> {
 
 // One call of read; how many bytes it used.
 fn read_once(rt: &impl Print, state: &mut [u8], piece: &[u8]) -> io::Result<usize> {
-    let r = reader::read(state, piece);
-    let used = r.used;
-    let answer = r.answer;
-    print::reading(rt, answer, state)?;
-    Ok(used)
+    match reader::read(state, piece) {
+        Ok(r) => {
+            print::reading(rt, r.answer, state)?;
+            Ok(r.used)
+        }
+        Err(why) => {
+            print::no(rt, why)?;
+            Ok(0)
+        }
+    }
 }
 
 // One call of collect; how many bytes it took.
 fn collect_once(rt: &impl Print, state: &mut [u8], piece: &[u8]) -> io::Result<usize> {
-    print::collecting(rt, reader::collect(state, piece))
+    print::counting(rt, b" took", reader::collect(state, piece))
 }
 
 fn read_whole(rt: &impl Print, state: &mut [u8], piece: &[u8]) -> io::Result<()> {
@@ -227,13 +184,11 @@ fn read_whole(rt: &impl Print, state: &mut [u8], piece: &[u8]) -> io::Result<()>
 
 // Calls of read, each with at most so many bytes, until the piece is used up, or one uses nothing.
 fn read_by(rt: &impl Print, state: &mut [u8], piece: &[u8], most: usize) -> io::Result<()> {
+    // A `loop`: each turn passes as many bytes as a call uses.
     let mut at = 0;
     loop {
         let used = read_once(rt, state, octets::part(piece, at, most))?;
-        if used == 0 {
-            return Ok(());
-        }
-        if piece.len() - at <= used {
+        if used == 0 || piece.len() - at <= used {
             return Ok(());
         }
         at += used;

@@ -1,6 +1,5 @@
 -- Laws of the C interface's definitions, which the proofs of its functions cite.
 -- Assumes nothing.
 mod AnswerLaws
-mod SupervisorLaws
 mod AddressLaws
 mod RequesterLaws

@@ -6,7 +6,7 @@ use Rattle.requester.specs.State.{is_some}
 use Rattle.requester.specs.Calls.{end_report}
 
 -- whether a recovery ended, from the number of its end
-pub end-told : (e : Bool) → is_some (end_report e) ≡ e
+pub end_told : (e : Bool) → is_some (end_report e) ≡ e
 unfolding end_report
-end-told true = refl
-end-told false = refl
+end_told true = refl
+end_told false = refl

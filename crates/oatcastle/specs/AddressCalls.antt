@@ -7,10 +7,10 @@ use Rattle.oatcastle.specs.Answers.{CallOutcome, call_number, given, filling}
 
 -- ---- The eight rows, one after the other, to a room
 
-unfoldable pub addresses_call : List ℕ → ℕ → ℕ → List ℕ → CallOutcome (List ℕ)
+abbrev pub addresses_call : List ℕ → ℕ → ℕ → List ℕ → CallOutcome (List ℕ)
 addresses_call base count stride room = filling (given (flatten (addresses_promise base count stride))) room
 
 -- ---- Whether the plan passes
 
-unfoldable pub plan_call : List ℕ → ℕ → ℕ → ℕ
+abbrev pub plan_call : List ℕ → ℕ → ℕ → ℕ
 plan_call base count stride = call_number (plan_promise base count stride)

@@ -1,7 +1,10 @@
 -- What a call of the C interface returns, and what it leaves of what it was lent. It returns 0, or the number of document 01's table ("When
 -- a call says no") or of document 02. Assumes nothing: these are definitions.
-use Rattle.std.specs.Prelude.{Bool, cond, List, ℕ, ltb, length}
+use Rattle.std.specs.Prelude.{Bool, cond, List, ℕ, ltb, length, Result, Ok, Err}
 use Rattle.std.proofs.Math.Option.{Option, none, some}
+use Rattle.refusals.specs.declared.Refusal.{Refusal}
+use Rattle.refusals.specs.declared.Refusal.TheVariants.{NoRoom}
+use Rattle.refusals.specs.Refusals.{table_number}
 use Rattle.octets.specs.Bytes.{overlay}
 
 -- the number that a call returns, and what it leaves of what it was lent
@@ -27,27 +30,42 @@ pub data CallReport : Type 0 where
   given : List ℕ → CallReport
 
 -- a part that is handed out, or the number of a refusal
-unfoldable pub part_given : Option ℕ → List ℕ → CallReport
+abbrev pub part_given : Option ℕ → List ℕ → CallReport
 part_given none bs = given bs
 part_given (some n) bs = refused n
 
+-- the numbers that a call gives, or the number of its refusal
+abbrev pub numbers_of : Result (List ℕ) Refusal → CallReport
+numbers_of (Ok ns) = given ns
+numbers_of (Err why) = refused (table_number why)
+
 -- numbers are the whole answer; a refused call leaves the answer as it was
-unfoldable pub answering : CallReport → List ℕ → CallOutcome (List ℕ)
+abbrev pub answering : CallReport → List ℕ → CallOutcome (List ℕ)
 answering (refused n) answer = call_outcome n answer
 answering (given ns) answer = call_outcome 0 ns
 
 -- the same of a call that is lent more to change: what its promise leaves of that, and the answer
-unfoldable pub answering_with : {A : Type 0} → A → CallReport → List ℕ → CallOutcome (A × List ℕ)
+abbrev pub answering_with : {A : Type 0} → A → CallReport → List ℕ → CallOutcome (A × List ℕ)
 answering_with left (refused n) answer = call_outcome n (left, answer)
 answering_with left (given ns) answer = call_outcome 0 (left, ns)
 
 -- bytes stand at the start of a room, or 8 where that is shorter; a refused call leaves the room
-unfoldable pub filling : CallReport → List ℕ → CallOutcome (List ℕ)
+abbrev pub filling : CallReport → List ℕ → CallOutcome (List ℕ)
 filling (refused n) room = call_outcome n room
 filling (given bs) room = cond (ltb (length room) (length bs)) (call_outcome 8 room) (call_outcome 0 (overlay 0 bs room))
 
 -- bytes to a room and numbers to an answer; a refused call leaves both
-unfoldable pub filling_and_answering : CallReport → List ℕ → List ℕ → List ℕ → CallOutcome (List ℕ × List ℕ)
+abbrev pub filling_and_answering : CallReport → List ℕ → List ℕ → List ℕ → CallOutcome (List ℕ × List ℕ)
 filling_and_answering (refused n) bs room answer = call_outcome n (room, answer)
 filling_and_answering (given ns) bs room answer =
     cond (ltb (length room) (length bs)) (call_outcome 8 (room, answer)) (call_outcome 0 (overlay 0 bs room, ns))
+
+-- what was told of a call, once bytes are to stand at the start of a room: a room that is too short refuses it
+abbrev pub room_told : {T : Type 0} → Result T Refusal → List ℕ → List ℕ → Result T Refusal
+room_told (Err why) bs room = Err why
+room_told (Ok told) bs room = cond (ltb (length room) (length bs)) (Err NoRoom) (Ok told)
+
+-- the room then
+abbrev pub room_left : {T : Type 0} → Result T Refusal → List ℕ → List ℕ → List ℕ
+room_left (Err why) bs room = room
+room_left (Ok told) bs room = cond (ltb (length room) (length bs)) room (overlay 0 bs room)

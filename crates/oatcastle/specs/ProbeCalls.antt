@@ -9,5 +9,5 @@ use Rattle.oatcastle.specs.Answers.{CallOutcome, call_outcome, call_number}
 abbrev pub probe_given : Probes.UpdateOutcome → CallOutcome (List Probe)
 probe_given o = call_outcome (call_number o.refusal) o.list
 
-unfoldable pub probe_update_call : List Probe → List ℕ → List ℕ → CallOutcome (List Probe)
+abbrev pub probe_update_call : List Probe → List ℕ → List ℕ → CallOutcome (List Probe)
 probe_update_call l indices results = probe_given (Probes.update_promise l indices results)

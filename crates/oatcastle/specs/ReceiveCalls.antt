@@ -14,7 +14,7 @@ use Rattle.oatcastle.specs.Answers.{CallOutcome, call_outcome, call_number, Call
 abbrev pub receive_done : Receive.ReceiveOutcome → CallOutcome Parts
 receive_done o = call_outcome (call_number o.refusal) o.parts
 
-unfoldable pub receive_call : List ℕ → Parts → List ℕ → CallOutcome Parts
+abbrev pub receive_call : List ℕ → Parts → List ℕ → CallOutcome Parts
 receive_call image p piece = receive_done (Receive.receive_promise image p piece)
 
 -- ---- Step: used, kind, reason; command, key, result
@@ -24,12 +24,12 @@ receive_call image p piece = receive_done (Receive.receive_promise image p piece
 -- - kind 3: a failure, with its reason
 
 -- command, key, result
-unfoldable pub served_numbers : Served → List ℕ
+abbrev pub served_numbers : Served → List ℕ
 served_numbers Served.nothing = 0 ∷ 0 ∷ 0 ∷ []
 served_numbers (Served.request command) = command ∷ 0 ∷ 0 ∷ []
 served_numbers (Served.key_set key result) = command_key_set ∷ key ∷ result ∷ []
 
-unfoldable pub step_given : ℕ → Ended → Served → CallReport
+abbrev pub step_given : ℕ → Ended → Served → CallReport
 step_given used (Ended.refused n) served = refused n
 step_given used Ended.more served = given (used ∷ 0 ∷ 0 ∷ served_numbers served)
 step_given used Ended.empty served = given (used ∷ 1 ∷ 0 ∷ served_numbers served)
@@ -39,9 +39,9 @@ step_given used (Ended.failed reason) served = given (used ∷ 3 ∷ reason ∷ 
 abbrev pub step_call_outcome : Receive.StepOutcome → List ℕ → CallOutcome (Parts × List ℕ)
 step_call_outcome o answer = answering_with o.parts (step_given o.used o.ended o.served) answer
 
-unfoldable pub step_call : List ℕ → Parts → List ℕ → List ℕ → CallOutcome (Parts × List ℕ)
+abbrev pub step_call : List ℕ → Parts → List ℕ → List ℕ → CallOutcome (Parts × List ℕ)
 step_call image p piece answer = step_call_outcome (Receive.step_promise image p piece) answer
 
 -- with a counter block lent: the block after a step, by how its frame ended
-unfoldable pub step_count : Counters → List ℕ → Parts → List ℕ → Counters
+abbrev pub step_count : Counters → List ℕ → Parts → List ℕ → Counters
 step_count c image p piece = bumped_for c (Receive.step_promise image p piece).ended

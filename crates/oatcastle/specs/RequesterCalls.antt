@@ -13,12 +13,12 @@ use Rattle.oatcastle.specs.Answers.{flag}
 abbrev pub requester_started : Calls.MainStartOutcome → CallOutcome MainParts
 requester_started o = call_outcome (call_number o.refusal) o.parts
 
-unfoldable pub requester_start_call : MainParts → CallOutcome MainParts
+abbrev pub requester_start_call : MainParts → CallOutcome MainParts
 requester_start_call p = requester_started (Calls.main_start_promise p)
 
 -- ---- Request, send: how many bytes were put out
 
-unfoldable pub put_given : Calls.PutReport → CallReport
+abbrev pub put_given : Calls.PutReport → CallReport
 put_given (Calls.wrote n) = given (n ∷ [])
 put_given (Calls.PutReport.refused n) = refused n
 
@@ -26,10 +26,10 @@ put_given (Calls.PutReport.refused n) = refused n
 abbrev pub put_call_outcome : Calls.PutOutcome → List ℕ → CallOutcome ((List ℕ × List ℕ) × List ℕ)
 put_call_outcome o answer = answering_with (o.requester, o.out) (put_given o.report) answer
 
-unfoldable pub request_call : List ℕ → ℕ → List ℕ → List ℕ → List ℕ → CallOutcome ((List ℕ × List ℕ) × List ℕ)
+abbrev pub request_call : List ℕ → ℕ → List ℕ → List ℕ → List ℕ → CallOutcome ((List ℕ × List ℕ) × List ℕ)
 request_call r command d out answer = put_call_outcome (Calls.request_promise r command d out) answer
 
-unfoldable pub send_call : List ℕ → List ℕ → List ℕ → CallOutcome ((List ℕ × List ℕ) × List ℕ)
+abbrev pub send_call : List ℕ → List ℕ → List ℕ → CallOutcome ((List ℕ × List ℕ) × List ℕ)
 send_call r out answer = put_call_outcome (Calls.send_promise r out) answer
 
 -- ---- Interrupt
@@ -37,7 +37,7 @@ send_call r out answer = put_call_outcome (Calls.send_promise r out) answer
 abbrev pub interrupt_done : Calls.InterruptOutcome → CallOutcome (List ℕ)
 interrupt_done o = call_outcome (call_number o.refusal) o.requester
 
-unfoldable pub interrupt_call : List ℕ → CallOutcome (List ℕ)
+abbrev pub interrupt_call : List ℕ → CallOutcome (List ℕ)
 interrupt_call r = interrupt_done (Calls.interrupt_promise r)
 
 -- ---- Receive: used, kind, ended, unsent; sequence, command, length; status, options, set bits
@@ -46,7 +46,7 @@ interrupt_call r = interrupt_done (Calls.interrupt_promise r)
 -- - kind 2: a status, with status, options and set bits
 -- - kind 3: the answer to a recovery's 0x0a, with sequence, command and length
 
-unfoldable pub receipt_given : ℕ → Calls.HandedReport → Bool → Bool → CallReport
+abbrev pub receipt_given : ℕ → Calls.HandedReport → Bool → Bool → CallReport
 receipt_given used (Calls.HandedReport.refused n) e u = refused n
 receipt_given used Calls.nothing e u = given (used ∷ 0 ∷ flag e ∷ flag u ∷ 0 ∷ 0 ∷ 0 ∷ 0 ∷ 0 ∷ 0 ∷ [])
 receipt_given used (Calls.answered version sequence command n) e u =
@@ -59,23 +59,23 @@ receipt_given used (Calls.alerted version sequence command n) e u =
 abbrev pub receipt_call_outcome : Calls.MainReceiveOutcome → List ℕ → CallOutcome (MainParts × List ℕ)
 receipt_call_outcome x answer = answering_with x.parts (receipt_given x.used x.report (is_some x.ended) x.unsent) answer
 
-unfoldable pub listen_call : MainParts → List ℕ → List ℕ → CallOutcome (MainParts × List ℕ)
+abbrev pub listen_call : MainParts → List ℕ → List ℕ → CallOutcome (MainParts × List ℕ)
 listen_call p piece answer = receipt_call_outcome (Calls.main_receive_promise p piece) answer
 
 -- ---- State: state, command, number, unsent, original
 
 -- 0: nothing is outstanding; 1: the caller's request is; 2, 3, 4: a recovery's 0x08, 0x09, 0x0a
-unfoldable pub stage_number : State.Stage → ℕ
+abbrev pub stage_number : State.Stage → ℕ
 stage_number State.idle = 0
 stage_number State.waiting = 1
 stage_number (State.recovering State.fetch) = 2
 stage_number (State.recovering State.acknowledge) = 3
 stage_number (State.recovering State.alert) = 4
 
-unfoldable pub state_given : Calls.StateReport → CallReport
+abbrev pub state_given : Calls.StateReport → CallReport
 state_given (Calls.StateReport.refused n) = refused n
 state_given (Calls.stands s) =
     given (stage_number s.stage ∷ s.command ∷ s.number ∷ flag s.unsent ∷ flag s.original ∷ [])
 
-unfoldable pub state_call : List ℕ → List ℕ → CallOutcome (List ℕ)
+abbrev pub state_call : List ℕ → List ℕ → CallOutcome (List ℕ)
 state_call r answer = answering (state_given (Calls.state_promise r)) answer

@@ -13,7 +13,7 @@ use Rattle.oatcastle.specs.Answers.{CallOutcome, CallReport, refused, given, par
 -- - kind 1: a message, with its type and its payload's length
 -- - kind 2: an echo request, with the length of its answer in the room
 
-unfoldable pub rot_read_given : RotAnswers.RotReport → CallReport
+abbrev pub rot_read_given : RotAnswers.RotReport → CallReport
 rot_read_given (RotAnswers.refused n) = refused n
 rot_read_given RotAnswers.nothing = given (0 ∷ 0 ∷ 0 ∷ [])
 rot_read_given (RotAnswers.handed type n) = given (1 ∷ type ∷ n ∷ [])
@@ -23,18 +23,18 @@ rot_read_given (RotAnswers.wrote n) = given (2 ∷ 0 ∷ n ∷ [])
 abbrev pub rot_read_call_outcome : RotAnswers.RotOutcome → List ℕ → CallOutcome (List ℕ × List ℕ)
 rot_read_call_outcome o answer = answering_with o.out (rot_read_given o.answer) answer
 
-unfoldable pub rot_read_call : List ℕ → List ℕ → List ℕ → CallOutcome (List ℕ × List ℕ)
+abbrev pub rot_read_call : List ℕ → List ℕ → List ℕ → CallOutcome (List ℕ × List ℕ)
 rot_read_call input out answer = rot_read_call_outcome (rot_read_promise input out) answer
 
 -- ---- The payload of the message that is handed out, to a room.
 -- It is nothing where none is handed out, and a refusal where a read refuses the input.
 
-unfoldable pub rot_payload_call : List ℕ → List ℕ → CallOutcome (List ℕ)
+abbrev pub rot_payload_call : List ℕ → List ℕ → CallOutcome (List ℕ)
 rot_payload_call input room = filling (part_given (payload_given_promise input) (payload_promise input)) room
 
 -- ---- Write: the message's length
 
-unfoldable pub rot_write_given : RotAnswers.RotReport → CallReport
+abbrev pub rot_write_given : RotAnswers.RotReport → CallReport
 rot_write_given (RotAnswers.refused n) = refused n
 rot_write_given (RotAnswers.wrote n) = given (n ∷ [])
 -- the writer says neither of these
@@ -44,10 +44,10 @@ rot_write_given (RotAnswers.handed type n) = given (0 ∷ [])
 abbrev pub rot_write_call_outcome : RotAnswers.RotOutcome → List ℕ → CallOutcome (List ℕ × List ℕ)
 rot_write_call_outcome o answer = answering_with o.out (rot_write_given o.answer) answer
 
-unfoldable pub rot_write_call : RotMessage → List ℕ → List ℕ → CallOutcome (List ℕ × List ℕ)
+abbrev pub rot_write_call : RotMessage → List ℕ → List ℕ → CallOutcome (List ℕ × List ℕ)
 rot_write_call m out answer = rot_write_call_outcome (rot_write_promise m out) answer
 
 -- ---- The CRC of some bytes
 
-unfoldable pub rot_crc_call : List ℕ → List ℕ → CallOutcome (List ℕ)
+abbrev pub rot_crc_call : List ℕ → List ℕ → CallOutcome (List ℕ)
 rot_crc_call bs answer = answering (given (crc bs ∷ [])) answer

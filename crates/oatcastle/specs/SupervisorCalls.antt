@@ -12,19 +12,19 @@ use Rattle.oatcastle.specs.Answers.{filling_and_answering, flag}
 abbrev pub start_done : Calls.StartOutcome → CallOutcome Calls.Parts
 start_done o = call_outcome (call_number o.refusal) o.parts
 
-unfoldable pub start_call : List ℕ → Calls.Parts → CallOutcome Calls.Parts
+abbrev pub start_call : List ℕ → Calls.Parts → CallOutcome Calls.Parts
 start_call d p = start_done (Calls.start_promise d p)
 
 -- ---- Take: how many bytes were moved
 
-unfoldable pub take_given : Calls.TakeReport → CallReport
+abbrev pub take_given : Calls.TakeReport → CallReport
 take_given (Calls.moved n) = given (n ∷ [])
 take_given (Calls.TakeReport.refused n) = refused n
 
 abbrev pub take_call_outcome : Calls.TakeOutcome → List ℕ → CallOutcome ((List ℕ × List ℕ) × List ℕ)
 take_call_outcome t answer = answering_with (t.outbox, t.room) (take_given t.report) answer
 
-unfoldable pub take_call : List ℕ → List ℕ → List ℕ → CallOutcome ((List ℕ × List ℕ) × List ℕ)
+abbrev pub take_call : List ℕ → List ℕ → List ℕ → CallOutcome ((List ℕ × List ℕ) × List ℕ)
 take_call outbox room answer = take_call_outcome (Calls.take_promise outbox room) answer
 
 -- ---- Post an alert, set options
@@ -32,56 +32,56 @@ take_call outbox room answer = take_call_outcome (Calls.take_promise outbox room
 abbrev pub registers_done : Calls.RegistersOutcome → CallOutcome (List ℕ)
 registers_done o = call_outcome (call_number o.refusal) o.registers
 
-unfoldable pub post_call : List ℕ → ℕ → List ℕ → CallOutcome (List ℕ)
+abbrev pub post_call : List ℕ → ℕ → List ℕ → CallOutcome (List ℕ)
 post_call registers action text = registers_done (Calls.post_promise registers action text)
 
-unfoldable pub options_call : List ℕ → ℕ → CallOutcome (List ℕ)
+abbrev pub options_call : List ℕ → ℕ → CallOutcome (List ℕ)
 options_call registers options = registers_done (Calls.options_promise registers options)
 
 -- ---- Look a key up: the result, and how many bytes the value has, which go to a room
 
-unfoldable pub lookup_given : Calls.LookupReport → CallReport
+abbrev pub lookup_given : Calls.LookupReport → CallReport
 lookup_given (Calls.LookupReport.result n k) = given (n ∷ k ∷ [])
 lookup_given (Calls.LookupReport.refused n) = refused n
 
-unfoldable pub lookup_call : List ℕ → List ℕ → ℕ → ℕ → List ℕ → List ℕ → CallOutcome (List ℕ × List ℕ)
+abbrev pub lookup_call : List ℕ → List ℕ → ℕ → ℕ → List ℕ → List ℕ → CallOutcome (List ℕ × List ℕ)
 lookup_call factory settings key most room answer =
     filling_and_answering (lookup_given (Calls.lookup_result_promise factory settings key most))
     (Calls.lookup_promise factory settings key most) room answer
 
 -- ---- The edition of a key: the result, and the edition
 
-unfoldable pub edition_given : Calls.EditionReport → CallReport
+abbrev pub edition_given : Calls.EditionReport → CallReport
 edition_given (Calls.EditionReport.result n edition) = given (n ∷ edition ∷ [])
 edition_given (Calls.EditionReport.refused n) = refused n
 
-unfoldable pub edition_call : List ℕ → List ℕ → ℕ → List ℕ → CallOutcome (List ℕ)
+abbrev pub edition_call : List ℕ → List ℕ → ℕ → List ℕ → CallOutcome (List ℕ)
 edition_call factory settings key answer = answering (edition_given (Calls.edition_promise factory settings key)) answer
 
 -- ---- Read the line signal, the two flags, a record
 
-unfoldable pub signal_given : Calls.RegisterReport Bool → CallReport
+abbrev pub signal_given : Calls.RegisterReport Bool → CallReport
 signal_given (Calls.is on) = given (flag on ∷ [])
 signal_given (Calls.RegisterReport.refused n) = refused n
 
-unfoldable pub signal_call : List ℕ → List ℕ → CallOutcome (List ℕ)
+abbrev pub signal_call : List ℕ → List ℕ → CallOutcome (List ℕ)
 signal_call registers answer = answering (signal_given (Calls.signal_promise registers)) answer
 
 -- reboot asked for, power off asked for
-unfoldable pub flags_given : Calls.RegisterReport (Bool × Bool) → CallReport
+abbrev pub flags_given : Calls.RegisterReport (Bool × Bool) → CallReport
 flags_given (Calls.is f) = given (flag f.0 ∷ flag f.1 ∷ [])
 flags_given (Calls.RegisterReport.refused n) = refused n
 
-unfoldable pub flags_call : List ℕ → List ℕ → CallOutcome (List ℕ)
+abbrev pub flags_call : List ℕ → List ℕ → CallOutcome (List ℕ)
 flags_call registers answer = answering (flags_given (Calls.flags_promise registers)) answer
 
 -- Whether there is one, its code, the whole length of its rest, and how many bytes of the rest are kept.
 -- The bytes that are kept go to a room.
-unfoldable pub record_given : Calls.RegisterReport (Option Calls.RecordRead) → CallReport
+abbrev pub record_given : Calls.RegisterReport (Option Calls.RecordRead) → CallReport
 record_given (Calls.is none) = given (0 ∷ 0 ∷ 0 ∷ 0 ∷ [])
 record_given (Calls.is (some e)) = given (1 ∷ e.code ∷ e.whole ∷ e.kept ∷ [])
 record_given (Calls.RegisterReport.refused n) = refused n
 
-unfoldable pub record_call : List ℕ → Kind → List ℕ → List ℕ → CallOutcome (List ℕ × List ℕ)
+abbrev pub record_call : List ℕ → Kind → List ℕ → List ℕ → CallOutcome (List ℕ × List ℕ)
 record_call registers kind room answer =
     filling_and_answering (record_given (Calls.record_promise registers kind)) (Calls.record_bytes_promise registers kind) room answer

@@ -2,23 +2,14 @@
 // Assumes nothing: no exported function has a `requires`, and no block is refused.
 ghost use Rattle.std.specs.Prelude.{◌≡◌};
 ghost use Rattle.supervisor.specs.Calls.{parts};
-ghost use Rattle.responder.specs.Receive.{receive_report};
 ghost use Rattle.responder.specs.Counting.{count_promise};
 ghost use Rattle.counters.specs.Count.{cleared_counters};
-ghost use Rattle.oatcastle.specs.Answers.{call_outcome, call_number};
+ghost use Rattle.oatcastle.specs.Answers.{call_outcome};
 ghost use Rattle.oatcastle.specs.ReceiveCalls.{receive_call, step_call, step_count};
 
+use crate::answer_writing::number;
 use crate::receiving::step_told;
-use crate::refusals;
 use counters::Counters;
-use responder::receive::Received;
-
-// The number that a receive with counters by value returns, and the counters that it leaves.
-#[derive(Drop)]
-struct Numbered {
-    answer: u32,
-    counters: Counters,
-}
 
 // Makes every counter of a block 0.
 #[unsafe(no_mangle)]
@@ -30,6 +21,7 @@ pub extern "C" fn oatcastle_clear_counters(counters: &mut Counters) -> u32
 }
 
 // `oatcastle_receive` with a counter block lent: the same, and every frame of the piece is counted.
+#[tactic(auto, unfolding(responder::specs::Receive::receive_report))]
 #[unsafe(no_mangle)]
 pub extern "C" fn oatcastle_receive_counted(
     counters: &mut Counters,
@@ -51,11 +43,12 @@ pub extern "C" fn oatcastle_receive_counted(
         (parts reader.old outbox.old factory.now settings.old registers.old)
         piece.now) }
 {
-    let numbered = receive_numbered(
-        *counters, image, piece, reader, outbox, factory, settings, registers,
+    let before = *counters;
+    let tallied = responder::counting::receive_tallied(
+        before, image, piece, reader, outbox, factory, settings, registers,
     );
-    *counters = numbered.counters;
-    numbered.answer
+    *counters = tallied.counters;
+    number(tallied.answer)
 }
 
 // `oatcastle_step` with a counter block lent: the same, and the frame that it ended is counted.
@@ -85,45 +78,6 @@ pub extern "C" fn oatcastle_step_counted(
     let told = step_told(
         image, piece, reader, outbox, factory, settings, registers, answer,
     );
-    counters::bump(counters, told.outcome);
-    told.answer
-}
-
-// A receive with the counters by value, and its number.
-fn receive_numbered(
-    counters: Counters,
-    image: &[u8],
-    piece: &[u8],
-    reader: &mut [u8],
-    outbox: &mut [u8],
-    factory: &[u8],
-    settings: &mut [u8],
-    registers: &mut [u8],
-) -> Numbered
-    ensures { (call_outcome result.answer
-        (parts reader.new outbox.new factory.now settings.new registers.new)
-        ≡ receive_call image.now
-        (parts reader.old outbox.old factory.now settings.old registers.old)
-        piece.now)
-        × (result.counters
-        ≡ count_promise counters
-        (parts reader.old outbox.old factory.now settings.old registers.old)
-        piece.now) }
-{
-    let tallied = responder::counting::receive_tallied(
-        counters, image, piece, reader, outbox, factory, settings, registers,
-    );
-    let received = tallied.answer;
-    let answer = number(received);
-    let counters = tallied.counters;
-    Numbered { answer, counters }
-}
-
-fn number(received: Received) -> u32
-    ensures { result ≡ call_number (receive_report received) }
-{
-    match received {
-        Received::Done => refusals::DONE,
-        Received::Refused => refusals::BAD_STATE,
-    }
+    counters::bump(counters, told.1);
+    told.0
 }

@@ -1,17 +1,15 @@
 // The line layer's calls: the reader, the writer and the checksum.
 // Assumes nothing: no exported function has a `requires`.
 ghost use Rattle.std.specs.Prelude.{◌≡◌};
-ghost use Rattle.line.specs.Reader.{read_report};
+ghost use Rattle.line.specs.Reader.{read_report, tail_report};
 ghost use Rattle.line.specs.Writer.{message_of_parts};
-ghost use Rattle.oatcastle.specs.Answers.{call_outcome, answering};
-ghost use Rattle.oatcastle.specs.LineCalls.{line_start_call, read_given, line_read_call, line_data_call, line_tail_call, line_write_call};
-ghost use Rattle.oatcastle.specs.LineCalls.{collect_call, line_checksum_call};
+ghost use Rattle.oatcastle.specs.Answers.{call_outcome, given};
+ghost use Rattle.oatcastle.specs.LineCalls.{line_start_call, read_given, line_read_call, line_data_call, tail_given, line_tail_call};
+ghost use Rattle.oatcastle.specs.LineCalls.{line_write_call, collect_call, line_checksum_call};
 
-use crate::answer_writing::write_bytes;
+use crate::answer_writing::{answered, count, fill, number};
 use crate::kinds::{CHECKSUM, EMPTY, FAILURE, FORM, LENGTH, MAGIC, MESSAGE, MORE};
-use crate::refusals;
-use line::reader::{Answer, Collected, Handed, Started, Unfinished};
-use line::writer::Written;
+use line::reader::{Answer, Failure, Reading, Unfinished};
 
 // Begins a fresh reader in a state of any contents.
 #[unsafe(no_mangle)]
@@ -19,10 +17,7 @@ pub extern "C" fn oatcastle_line_start(state: &mut [u8]) -> u32
     ensures { call_outcome result state.new ≡ line_start_call state.old }
 {
     let started = line::reader::start(state);
-    match started {
-        Started::Done => refusals::DONE,
-        Started::Refused => refusals::BAD_STATE,
-    }
+    number(started)
 }
 
 // Reads a piece to its end, or up to and with its first 00.
@@ -32,47 +27,34 @@ pub extern "C" fn oatcastle_line_read(state: &mut [u8], piece: &[u8], answer: &m
         ≡ line_read_call state.old piece.now answer.old }
 {
     let read = line::reader::read(state, piece);
-    let report = read.answer;
-    answer_reading(answer, read.used as u64, report)
+    answered(read.map(reading_numbers), answer)
 }
 
 // The numbers of the reader's answer.
-fn answer_reading(answer: &mut [u64; 7], used: u64, read: Answer) -> u32
-    ensures { call_outcome result answer.new ≡ answering (read_given used (read_report read)) answer.old }
+fn reading_numbers(read: Reading) -> [u64; 7]
+    ensures { given result ≡ read_given read.used (read_report read.answer) }
 {
-    match read {
-        Answer::Refused => refusals::BAD_STATE,
-        Answer::More => {
-            *answer = [used, MORE, 0, 0, 0, 0, 0];
-            refusals::DONE
-        }
-        Answer::Empty => {
-            *answer = [used, EMPTY, 0, 0, 0, 0, 0];
-            refusals::DONE
-        }
+    let used = read.used as u64;
+    match read.answer {
+        Answer::More => [used, MORE, 0, 0, 0, 0, 0],
+        Answer::Empty => [used, EMPTY, 0, 0, 0, 0, 0],
         Answer::Message(h) => {
-            let version = h.version as u64;
-            let command = h.command as u64;
-            let length = h.length as u64;
-            *answer = [used, MESSAGE, 0, version, h.sequence, command, length];
-            refusals::DONE
+            let version = u64::from(h.version);
+            let command = u64::from(h.command);
+            [
+                used,
+                MESSAGE,
+                0,
+                version,
+                h.sequence,
+                command,
+                h.length as u64,
+            ]
         }
-        Answer::BadForm => {
-            *answer = [used, FAILURE, FORM, 0, 0, 0, 0];
-            refusals::DONE
-        }
-        Answer::BadLength => {
-            *answer = [used, FAILURE, LENGTH, 0, 0, 0, 0];
-            refusals::DONE
-        }
-        Answer::BadChecksum(sequence) => {
-            *answer = [used, FAILURE, CHECKSUM, 0, sequence, 0, 0];
-            refusals::DONE
-        }
-        Answer::BadMagic(sequence) => {
-            *answer = [used, FAILURE, MAGIC, 0, sequence, 0, 0];
-            refusals::DONE
-        }
+        Answer::Failed(Failure::Form) => [used, FAILURE, FORM, 0, 0, 0, 0],
+        Answer::Failed(Failure::Length) => [used, FAILURE, LENGTH, 0, 0, 0, 0],
+        Answer::Failed(Failure::Checksum(sequence)) => [used, FAILURE, CHECKSUM, 0, sequence, 0, 0],
+        Answer::Failed(Failure::Magic(sequence)) => [used, FAILURE, MAGIC, 0, sequence, 0, 0],
     }
 }
 
@@ -83,13 +65,7 @@ pub extern "C" fn oatcastle_collect(reader: &mut [u8], piece: &[u8], answer: &mu
         ≡ collect_call reader.old piece.now answer.old }
 {
     let collected = line::reader::collect(reader, piece);
-    match collected {
-        Collected::Refused => refusals::BAD_STATE,
-        Collected::Bytes(taken) => {
-            *answer = [taken as u64];
-            refusals::DONE
-        }
-    }
+    answered(collected.map(count), answer)
 }
 
 // Copies the data of the message that was just handed out with this length.
@@ -97,12 +73,9 @@ pub extern "C" fn oatcastle_collect(reader: &mut [u8], piece: &[u8], answer: &mu
 pub extern "C" fn oatcastle_line_data(state: &[u8], length: u64, room: &mut [u8]) -> u32
     ensures { call_outcome result room.new ≡ line_data_call state.now length room.old }
 {
-    let given = line::reader::message_data_given(state, length as usize);
-    match given {
-        Handed::Refused => refusals::BAD_STATE,
-        Handed::TooLong => refusals::TOO_LONG,
-        Handed::Given => write_bytes(line::reader::message_data(state, length as usize), room),
-    }
+    let n = length as usize;
+    let given = line::reader::message_data_given(state, n);
+    number(fill(given, line::reader::message_data(state, n), room))
 }
 
 // How many bytes of an unfinished frame have come.
@@ -111,16 +84,16 @@ pub extern "C" fn oatcastle_line_tail(state: &[u8], answer: &mut [u64; 2]) -> u3
     ensures { call_outcome result answer.new ≡ line_tail_call state.now answer.old }
 {
     let tail = line::reader::tail(state);
+    answered(tail.map(tail_numbers), answer)
+}
+
+// The numbers of an unfinished frame.
+fn tail_numbers(tail: Unfinished) -> [u64; 2]
+    ensures { given result ≡ tail_given (tail_report (Ok tail)) }
+{
     match tail {
-        Unfinished::Refused => refusals::BAD_STATE,
-        Unfinished::Bytes(n) => {
-            *answer = [0, n as u64];
-            refusals::DONE
-        }
-        Unfinished::Longer => {
-            *answer = [1, 0];
-            refusals::DONE
-        }
+        Unfinished::Bytes(n) => [0, n as u64],
+        Unfinished::Longer => [1, 0],
     }
 }
 
@@ -140,14 +113,7 @@ pub extern "C" fn oatcastle_line_write(
         answer.old }
 {
     let written = line::writer::write(version, sequence, command, head, rest, out);
-    match written {
-        Written::Done(n) => {
-            *answer = [n as u64];
-            refusals::DONE
-        }
-        Written::NoRoom => refusals::NO_ROOM,
-        Written::TooLong => refusals::TOO_LONG,
-    }
+    answered(written.map(count), answer)
 }
 
 // The checksum of a message's body.
@@ -155,7 +121,6 @@ pub extern "C" fn oatcastle_line_write(
 pub extern "C" fn oatcastle_line_checksum(body: &[u8], answer: &mut [u64; 1]) -> u32
     ensures { call_outcome result answer.new ≡ line_checksum_call body.now answer.old }
 {
-    let sum = line::sums::checksum(body) as u64;
-    *answer = [sum];
-    refusals::DONE
+    let sum = line::sums::checksum(body);
+    answered(Ok([u64::from(sum)]), answer)
 }

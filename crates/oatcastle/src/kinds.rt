@@ -1,5 +1,5 @@
 // The kinds of answers, the line layer's reasons, the states and the command of a key set, as numbers of a lent answer.
-// include/oatcastle.h has the same.
+// include/oatcastle.h has the same, so that they are numbers.
 // Assumes nothing.
 use line::numbers;
 

@@ -11,7 +11,6 @@ pub mod plans;
 pub mod probe_list;
 pub mod readings;
 pub mod receiving;
-mod refusals;
 pub mod requesting;
 pub mod rot_link;
 pub mod saving_calls;

@@ -1,17 +1,17 @@
 // The supervisor's calls that read: a key's value, the line signal, the two flags, the two records.
 // Assumes nothing: no exported function has a `requires`.
 ghost use Rattle.std.specs.Prelude.{◌≡◌};
-ghost use Rattle.supervisor.specs.Calls.{lookup_report, record_report};
+ghost use Rattle.supervisor.specs.Calls.{lookup_report, signal_report, flags_report, record_report};
 ghost use Rattle.supervisor.specs.declared.registers.Kind.TheVariants.{BootFailure, Panic};
-ghost use Rattle.oatcastle.specs.Answers.{call_outcome, filling_and_answering};
-ghost use Rattle.oatcastle.specs.SupervisorCalls.{lookup_given, lookup_call, edition_call, signal_call, flags_call, record_given};
-ghost use Rattle.oatcastle.specs.SupervisorCalls.{record_call};
+ghost use Rattle.oatcastle.specs.Answers.{call_outcome, given, numbers_of};
+ghost use Rattle.oatcastle.specs.SupervisorCalls.{lookup_given, lookup_call, edition_call, signal_given, signal_call, flags_given};
+ghost use Rattle.oatcastle.specs.SupervisorCalls.{flags_call, record_given, record_call};
 
-use crate::answer_writing::{write_record, write_value};
-use crate::refusals;
+use crate::answer_writing::{answered, fill};
+use refusals::Refusal;
 use supervisor::keys;
-use supervisor::keys::{EditionFound, Found};
-use supervisor::registers::{FlagsRead, Kind, Recorded, SignalRead};
+use supervisor::keys::LookupError;
+use supervisor::registers::{Asked, Entry, Kind};
 
 // Looks a key up and copies its value.
 #[unsafe(no_mangle)]
@@ -28,22 +28,23 @@ pub extern "C" fn oatcastle_lookup<'a>(
 {
     let value = keys::lookup(factory, settings, key, maxresponse);
     let found = keys::lookup_result(factory, settings, key, maxresponse);
-    answer_value(value, found, room, answer)
+    let numbers = found_numbers(found.map(|n| n as u64));
+    answered(fill(numbers, value, room), answer)
 }
 
-// A value, and the numbers of a lookup's answer.
-fn answer_value(value: &[u8], found: Found, room: &mut [u8], answer: &mut [u64; 2]) -> u32
-    ensures { call_outcome result (room.new, answer.new)
-        ≡ filling_and_answering (lookup_given (lookup_report found)) value.now room.old answer.old }
+// The numbers of a lookup or an edition: its result, and what was found.
+fn found_numbers(found: Result<u64, LookupError>) -> Result<[u64; 2], Refusal>
+    ensures { numbers_of result ≡ lookup_given (lookup_report found) }
 {
-    match found {
-        Found::Refused => refusals::BAD_STATE,
-        Found::Value(n) => write_value(value, room, [0, n as u64], answer),
-        Found::BadKey => write_value(value, room, [1, 0], answer),
-        Found::NoValue => write_value(value, room, [2, 0], answer),
-        Found::TooLong => write_value(value, room, [3, 0], answer),
-        Found::SetOnly => write_value(value, room, [4, 0], answer),
-    }
+    let numbers = match found {
+        Ok(n) => [0, n],
+        Err(LookupError::Refused) => return Err(Refusal::BadState),
+        Err(LookupError::BadKey) => [1, 0],
+        Err(LookupError::NoValue) => [2, 0],
+        Err(LookupError::TooLong) => [3, 0],
+        Err(LookupError::SetOnly) => [4, 0],
+    };
+    Ok(numbers)
 }
 
 // The edition of a key.
@@ -58,25 +59,7 @@ pub extern "C" fn oatcastle_edition(
         ≡ edition_call factory.now settings.now key answer.old }
 {
     let found = keys::edition(factory, settings, key);
-    match found {
-        EditionFound::Refused => refusals::BAD_STATE,
-        EditionFound::Edition(n) => {
-            *answer = [0, n as u64];
-            refusals::DONE
-        }
-        EditionFound::BadKey => {
-            *answer = [1, 0];
-            refusals::DONE
-        }
-        EditionFound::NoValue => {
-            *answer = [2, 0];
-            refusals::DONE
-        }
-        EditionFound::SetOnly => {
-            *answer = [4, 0];
-            refusals::DONE
-        }
-    }
+    answered(found_numbers(found.map(u64::from)), answer)
 }
 
 // The line signal.
@@ -85,17 +68,14 @@ pub extern "C" fn oatcastle_signal(registers: &[u8], answer: &mut [u64; 1]) -> u
     ensures { call_outcome result answer.new ≡ signal_call registers.now answer.old }
 {
     let read = supervisor::registers::signal(registers);
-    match read {
-        SignalRead::Refused => refusals::BAD_STATE,
-        SignalRead::Asserted => {
-            *answer = [1];
-            refusals::DONE
-        }
-        SignalRead::Clear => {
-            *answer = [0];
-            refusals::DONE
-        }
-    }
+    answered(read.map(flag_number), answer)
+}
+
+// A flag as the only number of an answer.
+fn flag_number(on: bool) -> [u64; 1]
+    ensures { given result ≡ signal_given (signal_report (Ok on)) }
+{
+    [u64::from(on)]
 }
 
 // Whether a reboot and power off were asked for.
@@ -104,13 +84,13 @@ pub extern "C" fn oatcastle_flags(registers: &[u8], answer: &mut [u64; 2]) -> u3
     ensures { call_outcome result answer.new ≡ flags_call registers.now answer.old }
 {
     let read = supervisor::registers::flags(registers);
-    match read {
-        FlagsRead::Refused => refusals::BAD_STATE,
-        FlagsRead::Read(asked) => {
-            *answer = [asked.reboot as u64, asked.power_off as u64];
-            refusals::DONE
-        }
-    }
+    answered(read.map(asked_numbers), answer)
+}
+
+fn asked_numbers(asked: Asked) -> [u64; 2]
+    ensures { given result ≡ flags_given (flags_report (Ok asked)) }
+{
+    [u64::from(asked.reboot), u64::from(asked.power_off)]
 }
 
 // The record of a boot failure, and its kept bytes.
@@ -145,22 +125,15 @@ fn read_record(registers: &[u8], kind: Kind, room: &mut [u8], answer: &mut [u64;
 {
     let kept = supervisor::registers::record_bytes(registers, kind);
     let found = supervisor::registers::record(registers, kind);
-    answer_record(kept, found, room, answer)
+    answered(fill(found.map(entry_numbers), kept, room), answer)
 }
 
-// Kept bytes, and the numbers of a record.
-fn answer_record(kept: &[u8], found: Recorded, room: &mut [u8], answer: &mut [u64; 4]) -> u32
-    ensures { call_outcome result (room.new, answer.new)
-        ≡ filling_and_answering (record_given (record_report found)) kept.now room.old answer.old }
+// The numbers of a record, if there is one.
+fn entry_numbers(found: Option<Entry>) -> [u64; 4]
+    ensures { given result ≡ record_given (record_report (Ok found)) }
 {
     match found {
-        Recorded::Refused => refusals::BAD_STATE,
-        Recorded::Nothing => write_record(kept, room, [0, 0, 0, 0], answer),
-        Recorded::Found(e) => write_record(
-            kept,
-            room,
-            [1, e.code as u64, e.whole as u64, e.kept as u64],
-            answer,
-        ),
+        None => [0, 0, 0, 0],
+        Some(e) => [1, e.code as u64, e.whole as u64, e.kept as u64],
     }
 }

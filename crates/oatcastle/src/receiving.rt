@@ -4,22 +4,16 @@ ghost use Rattle.std.specs.Prelude.{◌≡◌};
 ghost use Rattle.supervisor.specs.Calls.{parts};
 ghost use Rattle.counters.specs.Ended.{step_report, served_report};
 ghost use Rattle.responder.specs.Receive.{step_promise};
-ghost use Rattle.oatcastle.specs.Answers.{call_outcome, answering};
+ghost use Rattle.oatcastle.specs.Answers.{call_outcome, numbers_of};
 ghost use Rattle.oatcastle.specs.ReceiveCalls.{receive_call, step_given, step_call};
 
+use crate::answer_writing::{answered, number};
 use crate::kinds::{EMPTY, FAILURE, KEY_SET, MESSAGE, MORE};
-use crate::refusals;
 use counters::outcome::Outcome;
-use responder::receive::Received;
-
-// The number that a step returns, and how the frame that it ended did.
-#[derive(Drop)]
-pub(crate) struct Told {
-    pub(crate) answer: u32,
-    pub(crate) outcome: Outcome,
-}
+use refusals::Refusal;
 
 // Reads a whole piece and carries out each request in it.
+#[tactic(auto, unfolding(responder::specs::Receive::receive_report))]
 #[unsafe(no_mangle)]
 pub extern "C" fn oatcastle_receive(
     image: &[u8],
@@ -39,10 +33,7 @@ pub extern "C" fn oatcastle_receive(
     let received = responder::receive::receive(
         image, piece, reader, outbox, factory, settings, registers,
     );
-    match received {
-        Received::Done => refusals::DONE,
-        Received::Refused => refusals::BAD_STATE,
-    }
+    number(received)
 }
 
 // Reads a piece up to and with its first 00, or to its end, and carries out the request that ends there.
@@ -67,10 +58,10 @@ pub extern "C" fn oatcastle_step(
     let told = step_told(
         image, piece, reader, outbox, factory, settings, registers, answer,
     );
-    told.answer
+    told.0
 }
 
-// A step with its answer, its number and how its frame ended.
+// A step with its answer: its number, and how the frame that it ended did.
 pub(crate) fn step_told(
     image: &[u8],
     piece: &[u8],
@@ -80,14 +71,14 @@ pub(crate) fn step_told(
     settings: &mut [u8],
     registers: &mut [u8],
     answer: &mut [u64; 6],
-) -> Told
-    ensures { (call_outcome result.answer (
+) -> (u32, Outcome)
+    ensures { (call_outcome result.0 (
       parts reader.new outbox.new factory.now settings.new registers.new,
       answer.new,
     ) ≡ step_call image.now
         (parts reader.old outbox.old factory.now settings.old registers.old)
         piece.now answer.old)
-        × (step_report result.outcome
+        × (step_report result.1
         ≡ (step_promise image.now
         (parts reader.old outbox.old factory.now settings.old registers.old)
         piece.now).ended) }
@@ -96,36 +87,29 @@ pub(crate) fn step_told(
         image, piece, reader, outbox, factory, settings, registers,
     );
     let outcome = stepped.outcome;
-    let answer = answer_step(answer, stepped.used as u64, outcome);
-    Told { answer, outcome }
+    let numbers = step_numbers(stepped.used as u64, outcome);
+    (answered(numbers, answer), outcome)
 }
 
 // The numbers of a step's answer.
-fn answer_step(answer: &mut [u64; 6], used: u64, ended: Outcome) -> u32
-    ensures { call_outcome result answer.new
-        ≡ answering (step_given used (step_report ended) (served_report ended)) answer.old }
+#[tactic(auto, unfolding(counters::specs::Ended::step_report, counters::specs::Ended::served_report))]
+fn step_numbers(used: u64, ended: Outcome) -> Result<[u64; 6], Refusal>
+    ensures { numbers_of result ≡ step_given used (step_report ended) (served_report ended) }
 {
-    match ended {
-        Outcome::Refused => refusals::BAD_STATE,
-        Outcome::More => {
-            *answer = [used, MORE, 0, 0, 0, 0];
-            refusals::DONE
-        }
-        Outcome::Empty => {
-            *answer = [used, EMPTY, 0, 0, 0, 0];
-            refusals::DONE
-        }
-        Outcome::Request(command) => {
-            *answer = [used, MESSAGE, 0, command as u64, 0, 0];
-            refusals::DONE
-        }
-        Outcome::KeySet(key, result) => {
-            *answer = [used, MESSAGE, 0, KEY_SET, key as u64, result as u64];
-            refusals::DONE
-        }
-        Outcome::Failure(reason) => {
-            *answer = [used, FAILURE, reason as u64, 0, 0, 0];
-            refusals::DONE
-        }
-    }
+    let numbers = match ended {
+        Outcome::Refused => return Err(Refusal::BadState),
+        Outcome::More => [used, MORE, 0, 0, 0, 0],
+        Outcome::Empty => [used, EMPTY, 0, 0, 0, 0],
+        Outcome::Request(command) => [used, MESSAGE, 0, u64::from(command), 0, 0],
+        Outcome::KeySet(key, result) => [
+            used,
+            MESSAGE,
+            0,
+            KEY_SET,
+            u64::from(key),
+            u64::from(result),
+        ],
+        Outcome::Failure(reason) => [used, FAILURE, u64::from(reason), 0, 0, 0],
+    };
+    Ok(numbers)
 }

@@ -1,37 +1,34 @@
 // The main processor's calls: start, request, interrupt, send, receive, state.
 // Assumes nothing: no exported function has a `requires`.
 ghost use Rattle.std.specs.Prelude.{◌≡◌};
-ghost use Rattle.requester.specs.Calls.{main_parts, handed_report, stage_report};
-ghost use Rattle.oatcastle.specs.Answers.{call_outcome, answering, flag};
+ghost use Rattle.requester.specs.Calls.{main_parts, handed_report, end_report, stage_report, state_report};
+ghost use Rattle.requester.specs.State.{is_some};
+ghost use Rattle.oatcastle.specs.Answers.{call_outcome, given};
 ghost use Rattle.oatcastle.specs.RequesterCalls.{requester_start_call, request_call, send_call, interrupt_call, receipt_given};
-ghost use Rattle.oatcastle.specs.RequesterCalls.{listen_call, stage_number, state_call};
+ghost use Rattle.oatcastle.specs.RequesterCalls.{listen_call, stage_number, state_given, state_call};
 
+use crate::answer_writing::{answered, count, number};
 use crate::kinds::{
     ALERT, ANSWER, IDLE, NOTHING, RECOVERY_ACKNOWLEDGE, RECOVERY_ALERT, RECOVERY_STATUS, STATUS,
     WAITING,
 };
-use crate::refusals;
 use requester::outcome::Handed;
 use requester::receive::Received;
-use requester::recovery::Interrupted;
-use requester::sending::{Requested, Sent};
-use requester::start::Started;
-use requester::state::{Stage, Stated};
+use requester::state::{Stage, Standing};
 
 // Begins the main processor's end.
+#[tactic(auto, unfolding(requester::specs::Calls::main_start_report))]
 #[unsafe(no_mangle)]
 pub extern "C" fn oatcastle_requester_start(reader: &mut [u8], requester: &mut [u8]) -> u32
     ensures { call_outcome result (main_parts reader.new requester.new)
         ≡ requester_start_call (main_parts reader.old requester.old) }
 {
     let started = requester::start::start(reader, requester);
-    match started {
-        Started::Done => refusals::DONE,
-        Started::Refused => refusals::BAD_STATE,
-    }
+    number(started)
 }
 
 // Puts out a request's frame.
+#[tactic(auto, unfolding(requester::specs::Calls::request_report))]
 #[unsafe(no_mangle)]
 pub extern "C" fn oatcastle_requester_request(
     requester: &mut [u8],
@@ -44,33 +41,21 @@ pub extern "C" fn oatcastle_requester_request(
         ≡ request_call requester.old command «data».now out.old answer.old }
 {
     let requested = requester::sending::request(requester, command, data, out);
-    match requested {
-        Requested::Refused => refusals::BAD_STATE,
-        Requested::TooLong => refusals::TOO_LONG,
-        Requested::Outstanding => refusals::OUTSTANDING,
-        Requested::NoNumber => refusals::NO_NUMBER,
-        Requested::NoRoom => refusals::NO_ROOM,
-        Requested::Done(n) => {
-            *answer = [n as u64];
-            refusals::DONE
-        }
-    }
+    answered(requested.map(count), answer)
 }
 
 // Begins a recovery, unless one is under way.
+#[tactic(auto, unfolding(requester::specs::Calls::interrupt_report))]
 #[unsafe(no_mangle)]
 pub extern "C" fn oatcastle_requester_interrupt(requester: &mut [u8]) -> u32
     ensures { call_outcome result requester.new ≡ interrupt_call requester.old }
 {
     let interrupted = requester::recovery::interrupt(requester);
-    match interrupted {
-        Interrupted::Done => refusals::DONE,
-        Interrupted::Refused => refusals::BAD_STATE,
-        Interrupted::NoNumber => refusals::NO_NUMBER,
-    }
+    number(interrupted)
 }
 
 // Puts out the frame of the one outstanding, where it is to go out.
+#[tactic(auto, unfolding(requester::specs::Calls::send_report))]
 #[unsafe(no_mangle)]
 pub extern "C" fn oatcastle_requester_send(
     requester: &mut [u8],
@@ -81,14 +66,7 @@ pub extern "C" fn oatcastle_requester_send(
         ≡ send_call requester.old out.old answer.old }
 {
     let sent = requester::sending::send(requester, out);
-    match sent {
-        Sent::Refused => refusals::BAD_STATE,
-        Sent::NoRoom => refusals::NO_ROOM,
-        Sent::Done(n) => {
-            *answer = [n as u64];
-            refusals::DONE
-        }
-    }
+    answered(sent.map(count), answer)
 }
 
 // Reads a piece up to and with its first 00 or a frame's 4,141st byte, or to its end.
@@ -103,69 +81,61 @@ pub extern "C" fn oatcastle_requester_receive(
         ≡ listen_call (main_parts reader.old requester.old) piece.now answer.old }
 {
     let received = requester::receive::receive(piece, reader, requester);
-    answer_received(answer, received)
+    answered(received.map(received_numbers), answer)
 }
 
 // The numbers of a receive's answer.
-fn answer_received(answer: &mut [u64; 10], received: Received) -> u32
-    ensures { call_outcome result answer.new
-        ≡ answering (receipt_given received.used (handed_report received.handed) received.ended received.unsent)
-        answer.old }
+#[tactic(auto, using(crate::proofs::RequesterLaws::end_told), unfolding(requester::specs::Calls::handed_report))]
+fn received_numbers(received: Received) -> [u64; 10]
+    ensures { given result
+        ≡ receipt_given received.used (handed_report received.handed) (is_some (end_report received.ended))
+        received.unsent }
 {
     let used = received.used as u64;
-    let ended = flag_number(received.ended);
-    let unsent = flag_number(received.unsent);
-    let handed = received.handed;
-    match handed {
-        Handed::Refused => refusals::BAD_STATE,
-        Handed::Nothing => {
-            *answer = [used, NOTHING, ended, unsent, 0, 0, 0, 0, 0, 0];
-            refusals::DONE
-        }
-        Handed::Answer(h) => {
-            let number = h.sequence;
-            let command = h.command as u64;
+    let ended = u64::from(received.ended);
+    let unsent = u64::from(received.unsent);
+    match received.handed {
+        None => [used, NOTHING, ended, unsent, 0, 0, 0, 0, 0, 0],
+        Some(Handed::Answer(h)) => {
+            let command = u64::from(h.command);
             let n = h.length as u64;
-            *answer = [used, ANSWER, ended, unsent, number, command, n, 0, 0, 0];
-            refusals::DONE
+            [used, ANSWER, ended, unsent, h.sequence, command, n, 0, 0, 0]
         }
-        Handed::Status(s) => {
-            let status = s.status;
-            let options = s.options;
-            let n = s.set_bits as u64;
-            *answer = [used, STATUS, ended, unsent, 0, 0, 0, status, options, n];
-            refusals::DONE
+        Some(Handed::Status(s)) => {
+            let n = u64::from(s.set_bits);
+            [used, STATUS, ended, unsent, 0, 0, 0, s.status, s.options, n]
         }
-        Handed::Alert(h) => {
-            let number = h.sequence;
-            let command = h.command as u64;
+        Some(Handed::Alert(h)) => {
+            let command = u64::from(h.command);
             let n = h.length as u64;
-            *answer = [used, ALERT, ended, unsent, number, command, n, 0, 0, 0];
-            refusals::DONE
+            [used, ALERT, ended, unsent, h.sequence, command, n, 0, 0, 0]
         }
     }
 }
 
 // What is outstanding.
+#[tactic(auto, unfolding(requester::specs::Calls::state_report))]
 #[unsafe(no_mangle)]
 pub extern "C" fn oatcastle_requester_state(requester: &[u8], answer: &mut [u64; 5]) -> u32
     ensures { call_outcome result answer.new ≡ state_call requester.now answer.old }
 {
     let stated = requester::state::state(requester);
-    match stated {
-        Stated::Refused => refusals::BAD_STATE,
-        Stated::Done(s) => {
-            let stage = s.stage;
-            let state = stage_number(stage);
-            let command = s.command as u64;
-            let unsent = flag_number(s.unsent);
-            let original = flag_number(s.original);
-            *answer = [state, command, s.number, unsent, original];
-            refusals::DONE
-        }
-    }
+    answered(stated.map(standing_numbers), answer)
 }
 
+// The numbers of what is outstanding.
+#[tactic(auto, unfolding(requester::specs::Calls::state_report, requester::specs::Calls::standing_report))]
+fn standing_numbers(s: Standing) -> [u64; 5]
+    ensures { given result ≡ state_given (state_report (Ok s)) }
+{
+    let state = stage_number(s.stage);
+    let command = u64::from(s.command);
+    let unsent = u64::from(s.unsent);
+    let original = u64::from(s.original);
+    [state, command, s.number, unsent, original]
+}
+
+#[tactic(auto, unfolding(requester::specs::Calls::stage_report))]
 fn stage_number(stage: Stage) -> u64
     ensures { result ≡ stage_number (stage_report stage) }
 {
@@ -176,10 +146,4 @@ fn stage_number(stage: Stage) -> u64
         Stage::Acknowledge => RECOVERY_ACKNOWLEDGE,
         Stage::Alert => RECOVERY_ALERT,
     }
-}
-
-fn flag_number(b: bool) -> u64
-    ensures { result ≡ flag b }
-{
-    if b { 1 } else { 0 }
 }

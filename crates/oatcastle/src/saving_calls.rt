@@ -4,9 +4,9 @@ ghost use Rattle.std.specs.Prelude.{◌≡◌};
 ghost use Rattle.oatcastle.specs.Answers.{call_outcome};
 ghost use Rattle.oatcastle.specs.SavingCalls.{save_call, restore_call};
 
-use crate::refusals;
-use saving::restore::Restored;
-use saving::save::Saved;
+use crate::answer_writing::{DONE, answered, count};
+use refusals::Refusal;
+use saving::restore::RestoreError;
 
 // Writes the settings that have a value as an image.
 #[unsafe(no_mangle)]
@@ -15,14 +15,7 @@ pub extern "C" fn oatcastle_save(settings: &[u8], out: &mut [u8], answer: &mut [
         ≡ save_call settings.now out.old answer.old }
 {
     let saved = saving::save::save(settings, out);
-    match saved {
-        Saved::Done(n) => {
-            *answer = [n as u64];
-            refusals::DONE
-        }
-        Saved::Refused => refusals::BAD_STATE,
-        Saved::NoRoom => refusals::NO_ROOM,
-    }
+    answered(saved.map(count), answer)
 }
 
 // Replaces the saved settings by those of an image, if it has no fault.
@@ -31,13 +24,12 @@ pub extern "C" fn oatcastle_restore(settings: &mut [u8], image: &[u8], answer: &
     ensures { call_outcome result (settings.new, answer.new)
         ≡ restore_call settings.old image.now answer.old }
 {
-    let restored = saving::restore::restore(settings, image);
-    match restored {
-        Restored::Done => refusals::DONE,
-        Restored::Refused => refusals::BAD_STATE,
-        Restored::Fault(number, offset) => {
+    match saving::restore::restore(settings, image) {
+        Ok(()) => DONE,
+        Err(RestoreError::Refused) => Refusal::BadState.number(),
+        Err(RestoreError::Fault(fault, offset)) => {
             *answer = [offset as u64];
-            number as u32
+            fault.number()
         }
     }
 }

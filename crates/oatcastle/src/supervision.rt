@@ -1,16 +1,12 @@
 // The supervisor's calls that change what they are lent: start, take, post an alert, set options.
 // Assumes nothing: no exported function has a `requires`.
 ghost use Rattle.std.specs.Prelude.{◌≡◌};
-ghost use Rattle.supervisor.specs.Calls.{parts, start_report};
-ghost use Rattle.oatcastle.specs.Answers.{call_outcome, call_number};
+ghost use Rattle.supervisor.specs.Calls.{parts};
+ghost use Rattle.oatcastle.specs.Answers.{call_outcome};
 ghost use Rattle.oatcastle.specs.SupervisorCalls.{start_call, take_call, post_call, options_call};
 
-use crate::refusals;
-use supervisor::alerts::Posted;
+use crate::answer_writing::{answered, count, number};
 use supervisor::layout;
-use supervisor::options::OptionsSet;
-use supervisor::outbox::Taken;
-use supervisor::start::Started;
 
 // Begins the supervisor with start data.
 #[unsafe(no_mangle)]
@@ -28,17 +24,7 @@ pub extern "C" fn oatcastle_start(
         (parts reader.old outbox.old factory.old settings.old registers.old) }
 {
     let started = supervisor::start::start(data, reader, outbox, factory, settings, registers);
-    start_number(started)
-}
-
-fn start_number(started: Started) -> u32
-    ensures { result ≡ call_number (start_report started) }
-{
-    match started {
-        Started::Done => refusals::DONE,
-        Started::Refused => refusals::BAD_STATE,
-        Started::BadData => refusals::BAD_START,
-    }
+    number(started)
 }
 
 // Moves the smaller of the room and the bytes pending.
@@ -48,13 +34,7 @@ pub extern "C" fn oatcastle_take(outbox: &mut [u8], room: &mut [u8], answer: &mu
         ≡ take_call outbox.old room.old answer.old }
 {
     let taken = supervisor::outbox::take(outbox, room);
-    match taken {
-        Taken::Moved(n) => {
-            *answer = [n as u64];
-            refusals::DONE
-        }
-        Taken::Refused => refusals::BAD_STATE,
-    }
+    answered(taken.map(count), answer)
 }
 
 // Posts an alert.
@@ -63,13 +43,7 @@ pub extern "C" fn oatcastle_post(registers: &mut [u8], action: u8, text: &[u8]) 
     ensures { call_outcome result registers.new ≡ post_call registers.old action text.now }
 {
     let posted = supervisor::alerts::post(registers, action, text);
-    match posted {
-        Posted::Done => refusals::DONE,
-        Posted::Refused => refusals::BAD_STATE,
-        Posted::BadAction => refusals::BAD_VALUE,
-        Posted::TooLong => refusals::TOO_LONG,
-        Posted::Full => refusals::ALERTS_FULL,
-    }
+    number(posted)
 }
 
 // Sets the options.
@@ -78,9 +52,5 @@ pub extern "C" fn oatcastle_set_options(registers: &mut [u8], options: u64) -> u
     ensures { call_outcome result registers.new ≡ options_call registers.old options }
 {
     let set = supervisor::options::set_options(registers, options);
-    match set {
-        OptionsSet::Done => refusals::DONE,
-        OptionsSet::Refused => refusals::BAD_STATE,
-        OptionsSet::BadOption => refusals::BAD_VALUE,
-    }
+    number(set)
 }

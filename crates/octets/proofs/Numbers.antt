@@ -3,10 +3,10 @@
 use Prim.Native.Nat.{ℕ, zero, suc, ◌+◌, ◌*◌, ◌/◌, ◌%◌, ◌^◌, ◌≤◌, ◌<◌}
 use mathlib.Core.Path.{◌≡◌, refl, sym, ap, ◌∙◌}
 use mathlib.Core.List.{List, [], ◌∷◌, ◌++◌}
-use native.Mathlib.Nat.{add-zero, zero-add, suc-add, mul-one, zero-mul, mul_assoc, pow-suc, pow-le-pow_right, div-lt_iff_lt-mul}
+use native.Mathlib.Nat.{add-zero, pow-suc, pow-le-pow_right, div-lt_iff_lt-mul}
 use native.Mathlib.Omega.{arith}
-use lib.ListN.{length, take, drop, get_or, length-take, drop_of_length-le}
-use lib.Seq.{take-nil, drop-cons, drop-drop}
+use lib.ListN.{length, drop, get_or, replicate, length-take, drop_of_length-le}
+use lib.Seq.{take-nil, drop-cons}
 use Rattle.octets.specs.Bytes.{Byte, Each, number, bytes, run, number_at}
 use Rattle.octets.proofs.Each.{each-run}
 
@@ -27,18 +27,6 @@ unfolding bytes
 one_byte v h =
     let e : v % 256 ≡ v = omega arith in
     rw e
-
--- j bytes of a number below 256 ^ j, and k bytes of what stands above it
-pub bytes-join : (j k a b : ℕ) → a < 256 ^ j → bytes (j + k) (a + b * 256 ^ j) ≡ bytes j a ++ bytes k b
-unfolding bytes
-bytes-join zero k a b h =
-    let e : a + b * 1 ≡ b = omega arith in
-    rw (zero-add, e)
-bytes-join (suc j) k a b h =
-    let x = b * 256 ^ j in
-    let low : (a + x * 256) % 256 ≡ a % 256 = omega arith in
-    let high : (a + x * 256) / 256 ≡ a / 256 + x = omega arith in
-    rw (suc-add, pow-suc, ← mul_assoc, low, high, bytes-join j k (a / 256) b ((div-lt_iff_lt-mul (omega arith)).1 (rw pow-suc at h)))
 
 -- ---- there and back
 
@@ -88,14 +76,75 @@ pub number-one : (s : List ℕ) (at : ℕ) → at < length s → get_or s at 0 �
 unfolding number
 number-one s at h = rw (drop-cons s at 0 h) (sym (add-zero (get_or s at 0)))
 
-joined : (j k : ℕ) (l : List ℕ) → number (take (j + k) l) ≡ number (take j l) + number (take k (drop j l)) * 256 ^ j
+-- zeros behind add nothing
+pub number-padded : (xs : List ℕ) (j n : ℕ) → number (xs ++ drop j (replicate n 0)) ≡ number xs
 unfolding number
-joined zero k l = simp (zero-add, mul-one)
-joined (suc j) k [] = simp (take-nil, zero-mul)
-joined (suc j) k (b ∷ l) =
-    let ih = joined j k l in
-    simp (suc-add, pow-suc, ← mul_assoc) (omega arith)
+number-padded [] zero zero = refl
+number-padded [] zero (suc n) = let h = number-padded [] zero n in omega arith
+number-padded [] (suc j) zero = refl
+number-padded [] (suc j) (suc n) = number-padded [] j n
+number-padded (x ∷ xs) j n = let h = number-padded xs j n in omega arith
 
--- j bytes and k bytes are j + k bytes
-pub number-join : (j k : ℕ) (s : List ℕ) (at : ℕ) → number_at j s at + number_at k s (at + j) * 256 ^ j ≡ number_at (j + k) s at
-number-join j k s at = sym (joined j k (drop at s) ∙ rw drop-drop)
+-- the number of bytes by their worth: one byte and those behind it
+number-step : (i : ℕ) (bs : List ℕ) → number (drop i bs) ≡ get_or bs i 0 + number (drop (suc i) bs) * 256
+unfolding number
+number-step zero [] = refl
+number-step zero (b ∷ bs) = refl
+number-step (suc i) [] = refl
+number-step (suc i) (b ∷ bs) = number-step i bs
+
+number-past : (k : ℕ) (bs : List ℕ) → length bs ≡ k → number (drop k bs) ≡ 0
+unfolding number
+number-past k bs e =
+    let h : length bs ≤ k = omega arith in
+    rw (drop_of_length-le bs h)
+
+pub number-of_2 : (bs : List ℕ) → length bs ≡ 2 → get_or bs 0 0 + get_or bs 1 0 * 256 ≡ number bs
+number-of_2 bs e = omega (arith, number-step 0 bs, number-step 1 bs, number-past 2 bs e)
+
+pub number-of_4 : (bs : List ℕ) → length bs ≡ 4
+    → get_or bs 0 0 + get_or bs 1 0 * 256 + get_or bs 2 0 * 65536 + get_or bs 3 0 * 16777216 ≡ number bs
+number-of_4 bs e = omega (arith, number-step 0 bs, number-step 1 bs, number-step 2 bs, number-step 3 bs, number-past 4 bs e)
+
+pub number-of_8 : (bs : List ℕ) → length bs ≡ 8
+    → get_or bs 0 0 + get_or bs 1 0 * 256 + get_or bs 2 0 * 65536 + get_or bs 3 0 * 16777216
+    + get_or bs 4 0 * 4294967296 + get_or bs 5 0 * 1099511627776 + get_or bs 6 0 * 281474976710656 + get_or bs 7 0 * 72057594037927936
+    ≡ number bs
+number-of_8 bs e =
+    omega (
+      arith,
+      number-step 0 bs,
+      number-step 1 bs,
+      number-step 2 bs,
+      number-step 3 bs,
+      number-step 4 bs,
+      number-step 5 bs,
+      number-step 6 bs,
+      number-step 7 bs,
+      number-past 8 bs e,
+    )
+
+pub bytes-of_2 : (v : ℕ) → v % 256 ∷ v / 256 % 256 ∷ [] ≡ bytes 2 v
+unfolding bytes
+bytes-of_2 v = refl
+
+pub bytes-of_4 : (v : ℕ) → v % 256 ∷ v / 256 % 256 ∷ v / 65536 % 256 ∷ v / 16777216 % 256 ∷ [] ≡ bytes 4 v
+unfolding bytes
+bytes-of_4 v =
+    let e2 : v / 65536 ≡ v / 256 / 256 = omega arith in
+    let e3 : v / 16777216 ≡ v / 256 / 256 / 256 = omega arith in
+    rw (e2, e3)
+
+pub bytes-of_8 : (v : ℕ)
+    → v % 256 ∷ v / 256 % 256 ∷ v / 65536 % 256 ∷ v / 16777216 % 256
+    ∷ v / 4294967296 % 256 ∷ v / 1099511627776 % 256 ∷ v / 281474976710656 % 256 ∷ v / 72057594037927936 % 256 ∷ []
+    ≡ bytes 8 v
+unfolding bytes
+bytes-of_8 v =
+    let e2 : v / 65536 ≡ v / 256 / 256 = omega arith in
+    let e3 : v / 16777216 ≡ v / 256 / 256 / 256 = omega arith in
+    let e4 : v / 4294967296 ≡ v / 256 / 256 / 256 / 256 = omega arith in
+    let e5 : v / 1099511627776 ≡ v / 256 / 256 / 256 / 256 / 256 = omega arith in
+    let e6 : v / 281474976710656 ≡ v / 256 / 256 / 256 / 256 / 256 / 256 = omega arith in
+    let e7 : v / 72057594037927936 ≡ v / 256 / 256 / 256 / 256 / 256 / 256 / 256 = omega arith in
+    rw (e2, e3, e4, e5, e6, e7)

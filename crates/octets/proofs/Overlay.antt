@@ -1,19 +1,20 @@
 -- The laws of runs and overlays: what stands where after bytes were put into a list.
 -- Assumes nothing.
-use Prim.Native.Nat.{ℕ, zero, suc, ◌+◌, ◌-◌, ◌*◌, ◌^◌, ◌≤◌, ◌<◌}
-use mathlib.Core.Path.{◌≡◌, refl, sym, ap, ◌∙◌}
-use mathlib.Core.Bool.{Bool, true, cond, and-false}
+use Prim.Native.Nat.{ℕ, zero, suc, ◌+◌, ◌-◌, ◌^◌, ◌≤◌, ◌<◌}
+use mathlib.Core.Path.{◌≡◌, refl, ap, ◌∙◌}
+use mathlib.Core.Bool.{Bool, true, false, cond, and-false}
 use mathlib.Core.List.{List, [], ◌∷◌, ◌++◌, append_assoc, append-nil}
-use native.Mathlib.Nat.{add-zero, zero-add, suc-add, add_assoc}
+use native.Mathlib.Nat.{add-zero, zero-add, suc-add, add_assoc, add-sub_cancel_left}
 use native.Mathlib.Numerals.{add-one}
 use native.Mathlib.Omega.{arith}
 use lib.ListN.{length, take, drop, set, get_or, length-append, length-drop, take-append-drop, get_or-append}
 use lib.Seq.{take-suc, take-add, get_or-drop, take-nil, drop-nil, drop-drop, take-take, take_at, drop_at, take-append-le, drop-append-le}
 use lib.Seq.{take-append-add, drop-append-add, length-take-le, append_snoc, set_split}
 use borrow.Author.Tests.{leb-true, le-leb, lt-leb}
+use Rattle.std.specs.List.{copy_within}
 use Rattle.octets.specs.Bytes.{Byte, Each, number, bytes, run, number_at, fits, overlay, put, copied, moved_down}
 use Rattle.octets.proofs.Each.{each_append, each_take, each-drop, each-run}
-use Rattle.octets.proofs.Numbers.{length-bytes, one_byte, bytes-join, number-bytes, bytes-number}
+use Rattle.octets.proofs.Numbers.{length-bytes, one_byte, number-bytes, bytes-number}
 use Rattle.octets.proofs.Conditions.{cond-by}
 
 -- ---- runs
@@ -156,13 +157,10 @@ overlay-run-more at from i src s h l =
     let m = overlay-more at (get_or src (from + i) 0) (run from i src) s (omega arith) in
     rw (e, ← run_more from i src h) at m
 
--- a run put at a lower offset of its own list, one byte more: the byte to be read is still as it was
-pub overlay-down-more : (from to i : ℕ) (s : List ℕ) → to ≤ from → from + i < length s
-    → set (overlay to (run from i s) s) (to + i) (get_or (overlay to (run from i s) s) (from + i) 0) ≡ overlay to (run from (i + 1) s) s
-overlay-down-more from to i s h l =
-    let e : length (run from i s) ≡ i = length_run from i s (omega arith) in
-    rw (overlay-get_d-after to (from + i) 0 (run from i s) s (omega arith) (omega arith))
-    (overlay-run-more to from i s s l (omega arith))
+-- a run moved within its list
+pub part-moved : (from to n : ℕ) (s : List ℕ) → from + n ≤ length s → copy_within s from (from + n) to ≡ overlay to (run from n s) s
+unfolding overlay
+part-moved from to n s h = rw (add-sub_cancel_left, length_run from n s h)
 
 -- the bytes up to an offset past those put
 pub overlay-take-past : (at n : ℕ) (xs s : List ℕ) → at ≤ length s → at + length xs ≤ n
@@ -211,9 +209,21 @@ pub put-not : (at : ℕ) (xs s : List ℕ) → length s < at + length xs → put
 unfolding put
 put-not at xs s h = rw (lt-leb (at + length xs) (length s) h)
 
--- a choice whose first side, where it is taken, is as the second
-cond_same : (b : Bool) (x s : List ℕ) → (b ≡ true → x ≡ s) → cond b x s ≡ s
-cond_same b x s f = cond-by (λ t. t ≡ s) b x s f (λ _. refl)
+pub fits-true : (at n : ℕ) (s : List ℕ) → fits at n s ≡ true → at + n ≤ length s
+fits-true at n s f = leb-true (at + n) (length s) f
+
+pub length-between : (at n : ℕ) (s : List ℕ) → fits at n s ≡ true → length (take (at + n - at) (drop at s)) ≡ n
+length-between at n s f = rw add-sub_cancel_left (length_run at n s (fits-true at n s f))
+
+-- bytes in the place of as many that are there
+pub put-between : (at n : ℕ) (xs s : List ℕ) → length xs ≡ n → fits at n s ≡ true
+    → take at s ++ (xs ++ drop (at + n - at) (drop at s)) ≡ put at xs s
+unfolding put overlay
+put-between at n xs s e f = rw (e, f, add-sub_cancel_left, drop-drop, append_assoc)
+
+pub put-none : (at n : ℕ) (xs s : List ℕ) → length xs ≡ n → fits at n s ≡ false → s ≡ put at xs s
+unfolding put
+put-none at n xs s e f = rw (e, f)
 
 length-cond : (b : Bool) (x s : List ℕ) → (b ≡ true → length x ≡ length s) → length (cond b x s) ≡ length s
 length-cond b x s f = cond-by (λ t. length t ≡ length s) b x s f (λ _. refl)
@@ -225,29 +235,6 @@ length-put at xs s = length-cond _ _ s (λ e. length-overlay at xs s (leb-true (
 -- two bytes, one after the other
 pub pair_put : (at a b : ℕ) (s : List ℕ) → at + 2 ≤ length s → set (set s at a) (at + 1) b ≡ put at (a ∷ b ∷ []) s
 pair_put at a b s h = rw (overlay-one at a s (omega arith), put-fits at (a ∷ b ∷ []) s h) (overlay-more at b (a ∷ []) s (omega arith))
-
--- a number by its halves of k bytes, one after the other
-pub halves-put : (k at a b v : ℕ) (s : List ℕ) → at + (k + k) ≤ length s → a < 256 ^ k → a + b * 256 ^ k ≡ v
-    → put (at + k) (bytes k b) (put at (bytes k a) s) ≡ put at (bytes (k + k) v) s
-halves-put k at a b v s h l e =
-    let m = length-bytes k a in
-    let n = length-bytes k b in
-    let o = length-bytes (k + k) v in
-    let p = length-overlay at (bytes k a) s (omega arith) in
-    rw (
-      put-fits at (bytes k a) s (omega arith),
-      put-fits (at + k) (bytes k b) (overlay at (bytes k a) s) (omega arith),
-      put-fits at (bytes (k + k) v) s (omega arith),
-      ← e,
-      bytes-join k k a b l,
-    )
-    (rw m at (overlay-next at (bytes k a) (bytes k b) s (omega arith)))
-
--- a number that does not fit
-pub put-bytes-not : (k at v : ℕ) (s : List ℕ) → length s < at + k → s ≡ put at (bytes k v) s
-put-bytes-not k at v s h =
-    let n = length-bytes k v in
-    sym (put-not at (bytes k v) s (omega arith))
 
 -- what was written is read
 pub number_put : (k at v : ℕ) (s : List ℕ) → at + k ≤ length s → v < 256 ^ k → number_at k (put at (bytes k v) s) at ≡ v
@@ -263,19 +250,6 @@ copied-fits src from n dst at h l =
     let e = length_run from n src h in
     rw (le-leb (from + n) (length src) h) (put-fits at (run from n src) dst (omega arith))
 
-pub copied-not-src : (src : List ℕ) (from n : ℕ) (dst : List ℕ) (at : ℕ) → length src < from + n
-    → copied src from n dst at ≡ dst
-unfolding copied
-copied-not-src src from n dst at h = rw (lt-leb (from + n) (length src) h)
-
-pub copied-not-dst : (src : List ℕ) (from n : ℕ) (dst : List ℕ) (at : ℕ) → length dst < at + n
-    → copied src from n dst at ≡ dst
-unfolding copied
-copied-not-dst src from n dst at h =
-    cond_same (fits from n src) _ dst (λ t.
-    let e = length_run from n src (leb-true (from + n) (length src) t) in
-    put-not at (run from n src) dst (omega arith))
-
 pub length-copied : (src : List ℕ) (from n : ℕ) (dst : List ℕ) (at : ℕ) → length (copied src from n dst at) ≡ length dst
 unfolding copied
 length-copied src from n dst at = length-cond (fits from n src) (put at (run from n src) dst) dst (λ e. length-put at (run from n src) dst)
@@ -285,9 +259,9 @@ pub moved_down-fits : (s : List ℕ) (from to n : ℕ) → to ≤ from → from 
 unfolding moved_down
 moved_down-fits s from to n h l = rw (le-leb (from + n) (length s) l, le-leb to from h)
 
-pub moved_down-not : (s : List ℕ) (from to n : ℕ) → length s < from + n → moved_down s from to n ≡ s
+pub moved_down-none : (s : List ℕ) (from to n : ℕ) → fits from n s ≡ false → moved_down s from to n ≡ s
 unfolding moved_down
-moved_down-not s from to n h = rw (lt-leb (from + n) (length s) h)
+moved_down-none s from to n f = rw f
 
 pub moved_down-up : (s : List ℕ) (from to n : ℕ) → from < to → moved_down s from to n ≡ s
 unfolding moved_down

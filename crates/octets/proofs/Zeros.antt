@@ -6,7 +6,7 @@ use Prim.Native.Nat.{ℕ, zero, suc, ◌+◌, ◌≤◌, ◌<◌}
 use native.Mathlib.Omega.{arith}
 use lib.ListN.{length, take, set, replicate, length-replicate, replicate-append-replicate}
 use Rattle.octets.specs.Bytes.{Each, number, number_at, overlay, put}
-use Rattle.octets.proofs.Overlay.{overlay-part, overlay-more, put-fits, put-not}
+use Rattle.octets.proofs.Overlay.{overlay-part, overlay-more, put-fits}
 
 abbrev pub zeros : ℕ → List ℕ
 zeros n = replicate n 0
@@ -25,9 +25,6 @@ module _ (at : ℕ) (s : List ℕ) where
 
   pub cleared-fits : (n : ℕ) → at + n ≤ length s → put at (zeros n) s ≡ overlay at (zeros n) s
   cleared-fits n h = put-fits at (zeros n) s (omega (arith, length-zeros n))
-
-  pub cleared-not : (n : ℕ) → length s < at + n → put at (zeros n) s ≡ s
-  cleared-not n h = put-not at (zeros n) s (omega (arith, length-zeros n))
 
 -- the first bytes of zeros are the number 0
 zeros-none : (k : ℕ) → number (zeros k) ≡ 0

@@ -10,15 +10,15 @@ use native.Mathlib.Numerals.{add-one, unary_clauses}
 use native.Mathlib.Omega.{arith}
 use borrow.Author.Tests.{eq-eqb, ne_eqb}
 use lib.Dec.{eqb, ltb}
-use lib.ListN.{length, drop, get_or, set, length-append, length-drop, drop_of_length-le}
-use lib.Seq.{drop-cons, drop-drop}
+use lib.ListN.{length, take, drop, get_or, set, length-append, length-drop, drop_of_length-le}
+use lib.Seq.{drop-cons, take_all}
 use Rattle.octets.specs.Bytes.{overlay, equal}
 use Rattle.octets.proofs.Conditions.{cond-by, cond_map}
 use Rattle.octets.proofs.Overlay.{overlay-none, overlay-more, overlay-next}
 use Rattle.line.specs.Cobs.{implied_zero, last_one_after_full, group_bytes, uncobs}
 use Rattle.plain.specs.Answers.{Decoding, behind, decode_group, decode_form}
 use Rattle.plain.specs.Inner.{decoded_report}
-use Rattle.plain.specs.declared.Decoded.TheVariants.{Bad, Length}
+use Rattle.std.specs.Prelude.{Some, None}
 
 -- ---- the bytes of a form
 
@@ -97,20 +97,20 @@ decoding-length form = omega (arith, group-length 0 false form)
 
 -- ---- what the decoding says
 
-report-by : (w : Bool) (xs : List ℕ) (k : ℕ) → Length k ≡ cond w (Length (length xs)) Bad → (w ≡ true) × (length xs ≡ k)
+report-by : (w : Bool) (xs : List ℕ) (k : ℕ) → Some k ≡ cond w (Some (length xs)) None → (w ≡ true) × (length xs ≡ k)
 report-by true xs k e = (refl, cc)
-report-by false xs k e = let z : ◌≡◌ {A = ℕ} 0 1 = cc in absurd (omega arith)
+report-by false xs k e = cc
 
-report-not : (w : Bool) (k : ℕ) → Bad ≡ cond w (Length k) Bad → w ≡ false
-report-not true k e = let z : ◌≡◌ {A = ℕ} 0 1 = cc in absurd (omega arith)
+report-not : (w : Bool) (k : ℕ) → None ≡ cond w (Some k) None → w ≡ false
+report-not true k e = cc
 report-not false k e = refl
 
 module _ (form : List ℕ) where
-  pub bad-none : Bad ≡ decoded_report (decode_form form) → uncobs form ≡ none
+  pub bad-none : None ≡ decoded_report (decode_form form) → uncobs form ≡ none
   unfolding decoded_report
   bad-none e = decoding-bytes form ∙ rw (report-not (decode_form form).whole (length (decode_form form).bytes) e)
 
-  pub length_some : {k : ℕ} → Length k ≡ decoded_report (decode_form form)
+  pub length_some : {k : ℕ} → Some k ≡ decoded_report (decode_form form)
       → (uncobs form ≡ some (decode_form form).bytes) × (length (decode_form form).bytes ≡ k)
   unfolding decoded_report
   length_some {k} e =
@@ -138,14 +138,14 @@ module _ (form m₀ m : List ℕ) (left : ℕ) (z : Bool) (n i : ℕ) (mid : Mid
     stopped : decode_form form ≡ record { whole = w; bytes = mid.decoded }
     stopped = mid.whole ∙ rw (e, append-nil)
 
-    pub stop : (cond w (Length n) Bad ≡ decoded_report (decode_form form)) × (m ≡ overlay 0 (decode_form form).bytes m₀)
+    pub stop : (cond w (Some n) None ≡ decoded_report (decode_form form)) × (m ≡ overlay 0 (decode_form form).bytes m₀)
     unfolding decoded_report
     stop = (rw (stopped, mid.long), rw stopped mid.stands)
 
-  pub stop-past : length form ≤ i → 0 < left → (Bad ≡ decoded_report (decode_form form)) × (m ≡ overlay 0 (decode_form form).bytes m₀)
+  pub stop-past : length form ≤ i → 0 < left → (None ≡ decoded_report (decode_form form)) × (m ≡ overlay 0 (decode_form form).bytes m₀)
   stop-past h l = stop false (rw (drop_of_length-le form h) (group-past left z l))
 
-  pub stop-end : length form ≤ i → left ≤ 0 → (Length n ≡ decoded_report (decode_form form)) × (m ≡ overlay 0 (decode_form form).bytes m₀)
+  pub stop-end : length form ≤ i → left ≤ 0 → (Some n ≡ decoded_report (decode_form form)) × (m ≡ overlay 0 (decode_form form).bytes m₀)
   unfolding decode_group
   stop-end h l =
       let e : left ≡ 0 = omega arith in
@@ -173,11 +173,11 @@ module _ (form m₀ m : List ℕ) (left : ℕ) (z : Bool) (n i : ℕ) (mid : Mid
       none_left : left ≡ 0
       none_left = omega arith
 
-      pub stop-zero : b ≡ 0 → (Bad ≡ decoded_report (decode_form form)) × (m ≡ overlay 0 (decode_form form).bytes m₀)
+      pub stop-zero : b ≡ 0 → (None ≡ decoded_report (decode_form form)) × (m ≡ overlay 0 (decode_form form).bytes m₀)
       stop-zero f = stop false (rw (at_byte, none_left) (code-zero z b (drop (i + 1) form) f))
 
       pub stop-last : true ≡ last_one_after_full b (drop (i + 1) form)
-          → (Bad ≡ decoded_report (decode_form form)) × (m ≡ overlay 0 (decode_form form).bytes m₀)
+          → (None ≡ decoded_report (decode_form form)) × (m ≡ overlay 0 (decode_form form).bytes m₀)
       stop-last f = stop false (rw (at_byte, none_left) (code-last z b (drop (i + 1) form) f))
 
       pub middle-code : (b ≡ 0 → ⊥) → false ≡ last_one_after_full b (drop (i + 1) form) → i < length m₀
@@ -195,6 +195,10 @@ module _ (form m₀ m : List ℕ) (left : ℕ) (z : Bool) (n i : ℕ) (mid : Mid
             whole = mid.whole ∙ rw (at_byte, none_left, code_other z b (drop (i + 1) form) f g) (simp append_assoc);
           }
 
+-- the part of a list from an offset to its end
+pub slice-behind : (s : List ℕ) (i : ℕ) → take (length s - i) (drop i s) ≡ drop i s
+slice-behind s i = take_all (length s - i) (drop i s) (omega (arith, length-drop i s))
+
 -- ---- a last 01 after a full group
 
 equal-one : (b v : ℕ) → equal (b ∷ []) (v ∷ []) ≡ eqb b v
@@ -207,19 +211,19 @@ equal-not-one [] v h = refl
 equal-not-one (x ∷ []) v h = absurd (h refl)
 equal-not-one (x ∷ y ∷ ys) v h = and-false (eqb x v)
 
-module _ (c : ℕ) (s : List ℕ) (i : ℕ) where
-  pub last-other : (c ≡ 255 → ⊥) → false ≡ last_one_after_full c (drop i s)
+module _ (c : ℕ) (s : List ℕ) where
+  pub last-other : (c ≡ 255 → ⊥) → false ≡ last_one_after_full c s
   last-other h = rw (ne_eqb c 255 h)
 
   module _ (h : c ≡ 255) where
-    last-behind : last_one_after_full c (drop i s) ≡ equal (drop (i + 254) s) (1 ∷ [])
-    last-behind = rw (eq-eqb c 255 h, drop-drop)
+    last-behind : last_one_after_full c s ≡ equal (drop 254 s) (1 ∷ [])
+    last-behind = rw (eq-eqb c 255 h)
 
-    pub last-longer : i ≤ length s → (length s - i ≡ 255 → ⊥) → false ≡ last_one_after_full c (drop i s)
-    last-longer l f = sym (last-behind ∙ equal-not-one (drop (i + 254) s) 1 (λ e. f (omega (arith, length-drop (i + 254) s))))
+    pub last-longer : (length s ≡ 255 → ⊥) → false ≡ last_one_after_full c s
+    last-longer f = sym (last-behind ∙ equal-not-one (drop 254 s) 1 (λ e. f (omega (arith, length-drop 254 s))))
 
-    pub last_byte : length s - i ≡ 255 → eqb (get_or s (i + 254) 0) 1 ≡ last_one_after_full c (drop i s)
+    pub last_byte : length s ≡ 255 → eqb (get_or s 254 0) 1 ≡ last_one_after_full c s
     last_byte e =
-        let d = drop-cons s (i + 254) 0 (omega arith) in
-        let n : drop (suc (i + 254)) s ≡ [] = drop_of_length-le s {i = suc (i + 254)} (omega arith) in
+        let d = drop-cons s 254 0 (omega arith) in
+        let n : drop 255 s ≡ [] = drop_of_length-le s {i = 255} (omega arith) in
         sym (last-behind ∙ rw (d, n, equal-one))

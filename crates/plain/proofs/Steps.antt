@@ -68,7 +68,7 @@ module _ (w : List ℕ) (at : ℕ) where
   frame-by : (ps : List (List ℕ)) {n : ℕ} → (split (drop at w)).closed ≡ ps → NextReport.frame n ≡ first_of ps (split (drop at w)).rest
       → AtFrame w at n
   unfolding first_of
-  frame-by [] e h = let z : ◌≡◌ {A = ℕ} 0 1 = cc in absurd (omega arith)
+  frame-by [] e h = cc
   frame-by (p ∷ ps) {n} e h = let l : length p ≡ n = cc in rw l at (at_first p ps e)
 
   -- a frame begins there
@@ -83,7 +83,7 @@ module _ (w : List ℕ) (at : ℕ) where
       let l : n ≡ length (split (drop at w)).rest = cc in
       let s = ap length (split-whole (drop at w)) in
       record { within = omega (arith, length-drop at w, rw length-append at s); step = rw (e, l) }
-  tail-by (p ∷ ps) e h = let z : ◌≡◌ {A = ℕ} 0 1 = cc in absurd (omega arith)
+  tail-by (p ∷ ps) e h = cc
 
   -- the tail begins there
   pub at_tail : {n : ℕ} → NextReport.tail n ≡ piece_at w at → AtTail w at n

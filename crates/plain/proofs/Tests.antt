@@ -21,8 +21,7 @@ use Rattle.line.specs.Judge.{judge_form}
 use Rattle.line.specs.Judge.{judge}
 use Rattle.plain.specs.Answers.{decode_form, decoded_into}
 use Rattle.plain.specs.Inner.{decoded_report}
-use Rattle.plain.specs.declared.Decoded.{Decoded}
-use Rattle.plain.specs.declared.Decoded.TheVariants.{Bad, Length}
+use Rattle.std.specs.Prelude.{Option, Some, None}
 use Rattle.plain.proofs.Groups.{decoding-length, bad-none, length_some}
 
 -- the sums, one byte more
@@ -114,7 +113,7 @@ module _ (form m : List ℕ) where
   over-judged h = rw (lt-ltb longest_form (length form) h) (refl, refl)
 
   -- and any other, which was decoded
-  module _ (h : length form ≤ longest_form) {d : Decoded} (report : d ≡ decoded_report (decode_form form)) {m' : List ℕ}
+  module _ (h : length form ≤ longest_form) {d : Option ℕ} (report : d ≡ decoded_report (decode_form form)) {m' : List ℕ}
       (left : m' ≡ overlay 0 (decode_form form).bytes m) where
     judge-form : judge form ≡ judge_form (uncobs form)
     unfolding judge
@@ -124,11 +123,11 @@ module _ (form m : List ℕ) where
     unfolding decoded_into
     form-left = left ∙ rw (le-ltb longest_form (length form) h)
 
-    pub bad-judged : d ≡ Bad → (failure 1 none ≡ judge form) × (m' ≡ decoded_into form m)
+    pub bad-judged : d ≡ None → (failure 1 none ≡ judge form) × (m' ≡ decoded_into form m)
     unfolding judge_form
     bad-judged e = (rw (judge-form, bad-none form (sym e ∙ report)), form-left)
 
-    module _ {k : ℕ} (e : d ≡ Length k) where
+    module _ {k : ℕ} (e : d ≡ Some k) where
       pub decoded-fits : length form ≤ length m → length m' ≡ length m → k ≤ length m'
       decoded-fits r s = omega (arith, (length_some form (sym e ∙ report)).1, decoding-length form)
 

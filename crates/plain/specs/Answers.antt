@@ -1,6 +1,7 @@
 -- What each call of the plain reader answers and leaves, by the meaning of the line layer's tests.
 -- Assumes nothing: these are definitions.
 use Rattle.std.specs.Prelude.{Bool, true, false, cond, ◌||◌, List, [], ◌∷◌, ◌++◌, ℕ, zero, suc, ◌-◌, eqb, ltb, length, drop}
+use Rattle.std.specs.Prelude.{Result, Ok, Err}
 use Rattle.std.proofs.Math.Option.{none, some}
 use Rattle.octets.specs.Bytes.{run, overlay}
 use Rattle.line.specs.Limits.{header_length, longest_form}
@@ -9,8 +10,9 @@ use Rattle.line.specs.Judge.{LineVerdict, failure, good}
 use Rattle.line.specs.Frame.{Pieces, split}
 use Rattle.plain.specs.declared.Piece.{Piece}
 use Rattle.plain.specs.declared.Piece.TheVariants as piece
-use Rattle.plain.specs.declared.Answer.{Answer}
-use Rattle.plain.specs.declared.Answer.TheVariants.{Message, BadForm, BadLength, BadChecksum, BadMagic}
+use Rattle.plain.specs.declared.Head.{Head}
+use Rattle.plain.specs.declared.Failure.{Failure}
+use Rattle.plain.specs.declared.Failure.TheVariants.{Form, Length, Checksum, Magic}
 
 -- a frame with so many bytes before its 00, or the unfinished tail of so many bytes
 pub data NextReport : Type 0 where
@@ -34,13 +36,13 @@ unfoldable pub piece_at : List ℕ → ℕ → NextReport
 piece_at w at = first_piece (split (drop at w))
 
 -- the verdict that an answer stands for; the data stand in the array behind the message's header
-unfoldable pub plain_verdict : Answer → List ℕ → LineVerdict
-plain_verdict (Message h) m =
+unfoldable pub plain_verdict : Result Head Failure → List ℕ → LineVerdict
+plain_verdict (Ok h) m =
     good (record { version = h.version; sequence = h.sequence; command = h.command; payload = run header_length h.length m })
-plain_verdict BadForm m = failure 1 none
-plain_verdict BadLength m = failure 3 none
-plain_verdict (BadChecksum sequence) m = failure 2 (some sequence)
-plain_verdict (BadMagic sequence) m = failure 4 (some sequence)
+plain_verdict (Err Form) m = failure 1 none
+plain_verdict (Err Length) m = failure 3 none
+plain_verdict (Err (Checksum sequence)) m = failure 2 (some sequence)
+plain_verdict (Err (Magic sequence)) m = failure 4 (some sequence)
 
 -- `group_bytes` with the bytes that come ahead of a failure.
 -- It has whether the form is one, and its bytes up to the code byte that fails or to the end.

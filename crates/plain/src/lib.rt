@@ -2,7 +2,7 @@
 // layer, only the meaning, `split` and `judge`. Assumes nothing: no public function has a `requires`.
 #![tactic(auto)]
 
-ghost use Rattle.std.specs.Prelude.{◌≡◌, ◌+◌, ◌≤◌, ◌<◌, length, take, drop};
+ghost use Rattle.std.specs.Prelude.{◌≡◌, ◌+◌, ◌≤◌, ◌<◌, length, take};
 ghost use Rattle.std.proofs.Math.Option.{some};
 ghost use Rattle.octets.specs.Bytes.{overlay};
 ghost use Rattle.line.specs.Checksum.{checksum};
@@ -24,14 +24,14 @@ const SHORTEST_MESSAGE: usize = 19;
 const MAGIC: u32 = 0x01DE19CC;
 
 // What begins at an offset of a capture: a frame with so many bytes before its 00, or the unfinished tail of so many bytes.
-#[derive(Clone, Copy)]
+#[derive(Clone, Copy, Debug, PartialEq, Eq)]
 pub enum Piece {
     Frame(usize),
     Tail(usize),
 }
 
 // A message; its data stand in the array from offset 17 on.
-#[derive(Clone, Copy)]
+#[derive(Clone, Copy, Debug, PartialEq, Eq)]
 pub struct Head {
     pub version: u32,
     pub sequence: u64,
@@ -39,85 +39,64 @@ pub struct Head {
     pub length: usize,
 }
 
-// A message, or the line layer's reason 1, 3, 2 or 4; the last two with the message's sequence.
-#[derive(Clone, Copy)]
-pub enum Answer {
-    Message(Head),
-    BadForm,
-    BadLength,
-    BadChecksum(u64),
-    BadMagic(u64),
+// The line layer's reason 1, 3, 2 or 4; the last two with the message's sequence.
+#[derive(Clone, Copy, Debug, PartialEq, Eq)]
+pub enum Failure {
+    Form,
+    Length,
+    Checksum(u64),
+    Magic(u64),
 }
 
 // What begins at an offset of a capture.
 pub fn next(capture: &[u8], at: usize) -> Piece
     ensures { next_report result ≡ piece_at capture.now at }
 {
-    let mut i = at;
-    while i < capture.len() {
-        if capture[i] == 0 {
-            return Piece::Frame(i - at);
-        }
-        i += 1;
+    let rest = capture.get(at..).unwrap_or(&[]);
+    match rest.iter().position(|b| *b == 0) {
+        Some(n) => Piece::Frame(n),
+        None => Piece::Tail(rest.len()),
     }
-    Piece::Tail(i - at)
 }
 
 // What the bytes before a 00 are.
-pub fn judged(frame: &[u8], message: &mut [u8; LONGEST_FORM]) -> Answer
+pub fn judged(frame: &[u8], message: &mut [u8; LONGEST_FORM]) -> Result<Head, Failure>
     ensures message_after { plain_verdict result message.new ≡ judge frame.now }
     ensures message_after_2 { message.new ≡ decoded_into frame.now message.old }
 {
     if LONGEST_FORM < frame.len() {
-        return Answer::BadForm;
+        return Err(Failure::Form);
     }
-    let d = decode(frame, message);
-    match d {
-        Decoded::Bad => Answer::BadForm,
-        Decoded::Length(n) => tested(message, n),
-    }
+    let n = decode(frame, message).ok_or(Failure::Form)?;
+    tested(message, n)
 }
 
-// How many bytes a form decodes to, unless it is none.
-#[derive(Drop)]
-enum Decoded {
-    Bad,
-    Length(usize),
-}
-
-// Decodes a COBS form to the start of out, which has room for as many bytes as the form.
-fn decode(form: &[u8], out: &mut [u8]) -> Decoded
+// Decodes a COBS form to the start of out, which has room for as many bytes as the form; how many bytes it decodes to, unless it is none.
+fn decode(form: &[u8], out: &mut [u8]) -> Option<usize>
     requires { length form.now ≤ length out.old }
-    ensures value { result ≡ decoded_report (decode_form form.now) }
-    ensures out_after { out.new ≡ overlay 0 (decode_form form.now).bytes out.old }
+    ensures { (result ≡ decoded_report (decode_form form.now)) × (out.new ≡ overlay 0 (decode_form form.now).bytes out.old) }
 {
     let mut left: usize = 0; // bytes of the group that are to come
     let mut zero = false; // whether a zero follows the group, unless the form ends there
     let mut n: usize = 0; // bytes decoded
-    let mut i: usize = 0;
-    while i < form.len() {
-        let b = form[i];
-        i += 1;
+    for (i, b) in form.iter().enumerate() {
         if 0 < left {
-            out[n] = b;
+            out[n] = *b;
             n += 1;
             left -= 1;
         } else {
-            if b == 0 {
-                return Decoded::Bad;
-            }
-            if last_one_after_full(b, form, i) {
-                return Decoded::Bad;
+            if *b == 0 || last_one_after_full(*b, &form[i + 1..]) {
+                return None;
             }
             n = put_zero(out, n, zero);
-            left = octets::wide(b) - 1;
-            zero = b < 255;
+            left = usize::from(*b) - 1;
+            zero = *b < 255;
         }
     }
     if 0 < left {
-        return Decoded::Bad;
+        return None;
     }
-    Decoded::Length(n)
+    Some(n)
 }
 
 // Puts the zero that follows a group, where one does; how many bytes are decoded then.
@@ -132,39 +111,29 @@ fn put_zero(out: &mut [u8], n: usize, zero: bool) -> usize
     n
 }
 
-// Whether a code byte is ff and the bytes from i on are its 254 bytes and a last 01.
-fn last_one_after_full(code: u8, form: &[u8], i: usize) -> bool
-    requires { i ≤ length form.now }
-    ensures { result ≡ last_one_after_full code (drop i form.now) }
+// Whether a code byte is ff and the bytes behind it are its 254 bytes and a last 01.
+fn last_one_after_full(code: u8, behind: &[u8]) -> bool
+    ensures { result ≡ last_one_after_full code behind.now }
 {
-    if code != 255 {
-        return false;
-    }
-    if form.len() - i != 255 {
-        return false;
-    }
-    form[i + 254] == 1
+    code == 255 && behind.len() == 255 && behind[254] == 1
 }
 
 // The tests on the first n bytes, which a form decoded to.
-fn tested(message: &[u8], n: usize) -> Answer
+fn tested(message: &[u8], n: usize) -> Result<Head, Failure>
     requires { n ≤ length message.now }
     ensures { plain_verdict result message.now ≡ judge_form (some (take n message.now)) }
 {
-    if n < SHORTEST_MESSAGE {
-        return Answer::BadLength;
-    }
-    if LONGEST_MESSAGE < n {
-        return Answer::BadLength;
+    if n < SHORTEST_MESSAGE || LONGEST_MESSAGE < n {
+        return Err(Failure::Length);
     }
     let sequence = octets::read_u64(message, 8);
     if octets::read_u16(message, n - 2) != checksum(&message[..n - 2]) {
-        return Answer::BadChecksum(sequence);
+        return Err(Failure::Checksum(sequence));
     }
     if octets::read_u32(message, 0) != MAGIC {
-        return Answer::BadMagic(sequence);
+        return Err(Failure::Magic(sequence));
     }
-    Answer::Message(Head {
+    Ok(Head {
         version: octets::read_u32(message, 4),
         sequence,
         command: octets::read_u8(message, 16),
@@ -178,11 +147,9 @@ fn checksum(body: &[u8]) -> u16
 {
     let mut first: u32 = 0;
     let mut second: u32 = 0;
-    let mut i = 0;
-    while i < body.len() {
-        first = (first + octets::wide(body[i]) as u32) % 255;
+    for b in body {
+        first = (first + u32::from(*b)) % 255;
         second = (second + first) % 255;
-        i += 1;
     }
     (second * 256 + first) as u16
 }

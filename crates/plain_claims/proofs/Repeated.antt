@@ -6,12 +6,14 @@ use Prim.Native.Nat.{ℕ, zero, suc, ◌+◌, ◌-◌, ◌<◌}
 use native.Mathlib.Nat.{add-zero}
 use native.Mathlib.Omega.{arith}
 use lib.ListN.{length}
+use Rattle.std.specs.Prelude.{Result}
 use Rattle.octets.specs.Bytes.{run}
 use Rattle.octets.proofs.Overlay.{length_run}
 use Rattle.line.specs.Judge.{judge}
 use Rattle.plain.specs.Listing.{Listing, listed_frame, listing}
 use Rattle.plain.specs.Answers.{NextReport, next_report, piece_at, plain_verdict}
-use Rattle.plain.specs.declared.Answer.{Answer}
+use Rattle.plain.specs.declared.Head.{Head}
+use Rattle.plain.specs.declared.Failure.{Failure}
 use Rattle.plain.proofs.Steps.{listed_from, added, at-frame, at_tail}
 use Rattle.plain_claims.specs.Agreement.{calls_for}
 use Rattle.plain_claims.proofs.Agreement.{agreement}
@@ -44,7 +46,7 @@ module _ (w : List ℕ) where
   repeated-from (frame {at = at} n answer array e v r) = rw (step-frame at n e, v, repeated-from r)
 
   -- there is such a listing
-  module _ (answer : List ℕ → Answer) (array : List ℕ → List ℕ)
+  module _ (answer : List ℕ → Result Head Failure) (array : List ℕ → List ℕ)
       (promise : (form : List ℕ) → plain_verdict (answer form) (array form) ≡ judge form) where
     ends_by : (left at : ℕ) → length w - at < left → (p : NextReport) → p ≡ piece_at w at → RepeatedFrom w at (listed_from w at)
     unfolding next_report

@@ -1,6 +1,6 @@
 -- Document 02's item 13: the plain reader gives a capture's listing, which agrees with a fresh line reader on every stream, cut anywhere.
 -- Assumes nothing: these are definitions and statements.
-use Rattle.std.specs.Prelude.{◌≡◌, true, List, [], ◌∷◌, map, ℕ, suc, ◌+◌, ◌≤◌, length}
+use Rattle.std.specs.Prelude.{◌≡◌, true, List, [], ◌∷◌, map, ℕ, suc, ◌+◌, ◌≤◌, length, Result}
 use Rattle.octets.specs.Bytes.{run}
 use Rattle.line.specs.Judge.{judge}
 use Rattle.line.specs.Reader.{reader_length}
@@ -9,7 +9,8 @@ use Rattle.line_claims.specs.Calls.{Reader, after_line_calls, fresh_reader, OfFr
 use Rattle.plain.specs.Listing.{Listing, listing}
 use Rattle.plain.specs.Answers.{next_report, piece_at, plain_verdict}
 use Rattle.plain.specs.declared.Piece.TheVariants.{Frame, Tail}
-use Rattle.plain.specs.declared.Answer.{Answer}
+use Rattle.plain.specs.declared.Head.{Head}
+use Rattle.plain.specs.declared.Failure.{Failure}
 use Rattle.plain_claims.specs.Samples.{plain_samples, plain_sample_meant}
 use Rattle.plain_claims.specs.Agreement.{Agrees, joined_pieces, calls_for}
 
@@ -18,7 +19,7 @@ use Rattle.plain_claims.specs.Agreement.{Agrees, joined_pieces, calls_for}
 pub data RepeatedFrom (w : List ℕ) : ℕ → Listing → Type 0 where
   tail : {at n : ℕ} → next_report (Tail n) ≡ piece_at w at → RepeatedFrom w at (record { entries = []; tail = n })
   empty : {at : ℕ} {l : Listing} → next_report (Frame 0) ≡ piece_at w at → RepeatedFrom w (at + 1) l → RepeatedFrom w at l
-  frame : {at : ℕ} {l : Listing} (n : ℕ) (answer : Answer) (array : List ℕ) → next_report (Frame (suc n)) ≡ piece_at w at
+  frame : {at : ℕ} {l : Listing} (n : ℕ) (answer : Result Head Failure) (array : List ℕ) → next_report (Frame (suc n)) ≡ piece_at w at
       → plain_verdict answer array ≡ judge (run at (suc n) w) → RepeatedFrom w (at + suc n + 1) l
       → RepeatedFrom w at (record { entries = (record { start = at; verdict = plain_verdict answer array }) ∷ l.entries; tail = l.tail })
 
@@ -44,7 +45,7 @@ RepeatedAgrees = (w : List ℕ) (l : Listing) → RepeatedFrom w 0 l
     → OfFreshReader (λ r. r.bytes ≡ w → Agrees l r) × OfCutReader (λ ps r. joined_pieces ps ≡ w → Agrees l r)
 
 abbrev pub EndsReached : Type 0
-EndsReached = (w : List ℕ) (answer : List ℕ → Answer) (array : List ℕ → List ℕ)
+EndsReached = (w : List ℕ) (answer : List ℕ → Result Head Failure) (array : List ℕ → List ℕ)
     → ((form : List ℕ) → plain_verdict (answer form) (array form) ≡ judge form) → RepeatedFrom w 0 (listing w)
 
 pub record PlainItem13 : Type 0 where

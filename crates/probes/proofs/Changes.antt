@@ -3,51 +3,32 @@
 use mathlib.Core.Path.{◌≡◌, refl, sym, ◌∙◌, ap, subst}
 use mathlib.Core.Bool.{Bool, true, false, not, cond}
 use mathlib.Core.List.{List, [], ◌∷◌}
-use Prim.Native.Nat.{ℕ, zero, suc, ◌+◌, ◌≤◌, ◌<◌}
+use mathlib.Core.Logic.{◌⊎◌, inl, inr}
+use Prim.Native.Nat.{ℕ, zero, suc, ◌+◌, ◌<◌}
 use native.Mathlib.Nat.{add-zero, add-suc, suc-add, zero-add, le-suc, lt-suc_self, lt_irrefl, lt_of_lt_of_le}
 use native.Mathlib.Omega.{arith}
-use lib.ListN.{length, get_or, drop, drop_of_length-le}
-use lib.Seq.{drop-cons}
+use lib.ListN.{length}
 use lib.Dec.{T, eqb}
 use borrow.Author.Tests.{eq-eqb, ne_eqb}
 use Rattle.probes.specs.declared.Probe.{Probe}
-use Rattle.probes.specs.declared.Updated.TheVariants.{Done, Refused}
+use Rattle.std.specs.Prelude.{Ok, Err}
+use Rattle.refusals.specs.declared.Refusal.TheVariants.{BadProbe}
 use Rattle.probes.specs.Probes.{ProbeChange, probe_change, probe_changes, good, with_result, latest, probes_from, update_report}
 use Rattle.probes.specs.Probes.{update_outcome, update_promise, result_set}
 
--- ---- The changes of two lists from offset i on
-
-one_more : (i : ℕ) → suc i ≡ i + 1
-one_more i = sym (add-suc i zero ∙ ap suc (add-zero i))
-
-pub changes-more : (is rs : List ℕ) (i : ℕ) → i < length is → i < length rs
-    → probe_changes (drop i is) (drop i rs)
-    ≡ probe_change (get_or is i 0) (get_or rs i 0) ∷ probe_changes (drop (i + 1) is) (drop (i + 1) rs)
+-- there are none where one of the lists is empty
+pub none-left : (is rs : List ℕ) → (length is ≡ 0) ⊎ (length rs ≡ 0) → probe_changes is rs ≡ []
 unfolding probe_changes
-changes-more is rs i h k =
-    ap (λ (us : List ℕ). probe_changes us (drop i rs)) (drop-cons is i 0 h)
-    ∙ ap (λ (us : List ℕ). probe_changes (get_or is i 0 ∷ drop (suc i) is) us) (drop-cons rs i 0 k)
-    ∙ ap (λ (j : ℕ). probe_change (get_or is i 0) (get_or rs i 0) ∷ probe_changes (drop j is) (drop j rs)) (one_more i)
-
-pub changes-end : (is rs : List ℕ) (i : ℕ) → length is ≤ i → probe_changes (drop i is) (drop i rs) ≡ []
-unfolding probe_changes
-changes-end is rs i h = ap (λ (us : List ℕ). probe_changes us (drop i rs)) (drop_of_length-le is h)
+none-left [] rs e = refl
+none-left (i ∷ is) [] e = refl
+none-left (i ∷ is) (r ∷ rs) (inl e) = absurd (omega arith)
+none-left (i ∷ is) (r ∷ rs) (inr e) = absurd (omega arith)
 
 -- ---- One change after the other
 
-pub applied : List Probe → List ProbeChange → List Probe
+unfoldable pub applied : List Probe → List ProbeChange → List Probe
 applied l [] = l
 applied l (c ∷ cs) = applied (result_set l c.index c.result) cs
-
-pub applied-more : (l : List Probe) (is rs : List ℕ) (i j : ℕ) → j ≡ i + 1 → i < length is → i < length rs
-    → applied (result_set l (get_or is i 0) (get_or rs i 0)) (probe_changes (drop j is) (drop j rs))
-    ≡ applied l (probe_changes (drop i is) (drop i rs))
-unfolding applied
-applied-more l is rs i j e h k = rw e (ap (applied l) (sym (changes-more is rs i h k)))
-
-pub applied-end : (l : List Probe) (is rs : List ℕ) (i : ℕ) → length is ≤ i → l ≡ applied l (probe_changes (drop i is) (drop i rs))
-unfolding applied
-applied-end l is rs i h = ap (applied l) (sym (changes-end is rs i h))
 
 -- ---- Record by record
 
@@ -112,10 +93,11 @@ passed true x y t = absurd t
 passed false x y t = refl
 
 pub update_done : (l : List Probe) (is rs : List ℕ) → T (good (length l) is rs)
-    → update_outcome Done (applied l (probe_changes is rs)) ≡ update_promise l is rs
+    → update_outcome (Ok tt) (applied l (probe_changes is rs)) ≡ update_promise l is rs
 unfolding update_report update_promise
-update_done l is rs t = ap (update_outcome Done) (applied-records l (probe_changes is rs)) ∙ chosen (good (length l) is rs) _ _ t
+update_done l is rs t = ap (update_outcome (Ok tt)) (applied-records l (probe_changes is rs)) ∙ chosen (good (length l) is rs) _ _ t
 
-pub update_refused : (l : List Probe) (is rs : List ℕ) → T (not (good (length l) is rs)) → update_outcome Refused l ≡ update_promise l is rs
+pub update_refused : (l : List Probe) (is rs : List ℕ) → T (not (good (length l) is rs))
+    → update_outcome (Err BadProbe) l ≡ update_promise l is rs
 unfolding update_report update_promise
 update_refused l is rs t = passed (good (length l) is rs) _ _ t

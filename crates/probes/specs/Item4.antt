@@ -1,9 +1,9 @@
 -- Document 02's item 4, of the probe list: when a call is refused, and what any other leaves of each record.
 -- Assumes nothing: these are definitions and statements.
-use Rattle.std.specs.Prelude.{◌≡◌, List, [], ◌∷◌, ◌++◌, map, ◌⊎◌, ℕ, ◌<◌, length, get_or}
+use Rattle.std.specs.Prelude.{◌≡◌, List, [], ◌∷◌, ◌++◌, map, ◌⊎◌, Ok, Err, ℕ, ◌<◌, length, get_or}
 use Rattle.std.proofs.Math.Option.{none, some}
 use Rattle.probes.specs.declared.Probe.{Probe}
-use Rattle.probes.specs.declared.Updated.TheVariants.{Done, Refused}
+use Rattle.refusals.specs.declared.Refusal.TheVariants.{BadProbe}
 use Rattle.probes.specs.Probes.{ProbeChange, probe_changes, with_result, latest, probes_from, update_outcome, update_promise, no_probe}
 use Rattle.probes.specs.Probes.{result_set}
 use Rattle.probes.specs.Samples.{three, ProbeSample, probe_samples}
@@ -40,7 +40,7 @@ ProbeSamplesHold =
     ≡ map (λ (s : ProbeSample). s.outcome) probe_samples
 
 abbrev pub EmptyList : Type 0
-EmptyList = (update_promise [] [] [] ≡ update_outcome Done []) × (update_promise [] (0 ∷ []) (0 ∷ []) ≡ update_outcome Refused [])
+EmptyList = (update_promise [] [] [] ≡ update_outcome (Ok tt) []) × (update_promise [] (0 ∷ []) (0 ∷ []) ≡ update_outcome (Err BadProbe) [])
 
 -- the list of n records has the part, and the result is 0, 2 or 3
 abbrev pub GoodChange : ℕ → ProbeChange → Type 0

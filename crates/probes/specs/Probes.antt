@@ -1,10 +1,10 @@
 -- The probe list (document 02, item 4): what a call's changes leave of each record, and when the call is refused.
 -- Assumes nothing: these are definitions.
-use Rattle.std.specs.Prelude.{Bool, true, cond, ◌&&◌, ◌||◌, List, [], ◌∷◌, ℕ, suc, ltb, eqb, length, get_or, set}
+use Rattle.std.specs.Prelude.{Bool, true, cond, ◌&&◌, ◌||◌, List, [], ◌∷◌, Result, Ok, Err, ⊤, ℕ, suc, ltb, eqb, length, get_or, set}
 use Rattle.std.proofs.Math.Option.{Option, none, some}
 use Rattle.probes.specs.declared.Probe.{Probe}
-use Rattle.probes.specs.declared.Updated.{Updated}
-use Rattle.probes.specs.declared.Updated.TheVariants.{Done, Refused}
+use Rattle.refusals.specs.declared.Refusal.{Refusal}
+use Rattle.refusals.specs.Refusals.{table_number}
 
 -- ---- Changes
 
@@ -57,11 +57,11 @@ pub record UpdateOutcome : Type 0 where
   pub list : List Probe
 
 -- the number of each case
-unfoldable pub update_report : Updated → Option ℕ
-update_report Done = none
-update_report Refused = some 15
+unfoldable pub update_report : Result ⊤ Refusal → Option ℕ
+update_report (Ok done) = none
+update_report (Err why) = some (table_number why)
 
-abbrev pub update_outcome : Updated → List Probe → UpdateOutcome
+abbrev pub update_outcome : Result ⊤ Refusal → List Probe → UpdateOutcome
 update_outcome r l = record { refusal = update_report r; list = l }
 
 -- each record brought up to date; 15 and the list as it was where a change is not good

@@ -1,8 +1,8 @@
 -- Samples of the probe list: calls on a list of three records, and what each answers and leaves.
 -- Assumes nothing: these are definitions.
-use Rattle.std.specs.Prelude.{List, [], ◌∷◌, ℕ}
+use Rattle.std.specs.Prelude.{List, [], ◌∷◌, Ok, Err, ℕ}
 use Rattle.probes.specs.declared.Probe.{Probe}
-use Rattle.probes.specs.declared.Updated.TheVariants.{Done, Refused}
+use Rattle.refusals.specs.declared.Refusal.TheVariants.{BadProbe}
 use Rattle.probes.specs.Probes.{UpdateOutcome, update_outcome}
 
 abbrev pub probe : ℕ → ℕ → Probe
@@ -18,10 +18,10 @@ pub record ProbeSample : Type 0 where
   pub outcome : UpdateOutcome
 
 abbrev pub done : List ℕ → List ℕ → List Probe → ProbeSample
-done is rs l = record { indices = is; results = rs; outcome = update_outcome Done l }
+done is rs l = record { indices = is; results = rs; outcome = update_outcome (Ok tt) l }
 
 abbrev pub refused : List ℕ → List ℕ → ProbeSample
-refused is rs = record { indices = is; results = rs; outcome = update_outcome Refused three }
+refused is rs = record { indices = is; results = rs; outcome = update_outcome (Err BadProbe) three }
 
 abbrev pub probe_samples : List ProbeSample
 probe_samples =

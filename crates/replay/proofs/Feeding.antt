@@ -1,5 +1,7 @@
 -- Laws of feeding: bytes one after the other, those that are read while there is room, and what is kept of their output.
 -- Assumes nothing.
+use Rattle.std.specs.Prelude.{Result, ⊤}
+use Rattle.std.specs.Result.{result_unwrap_or}
 use mathlib.Core.Path.{◌≡◌, refl, sym, ap, ◌∙◌}
 use mathlib.Core.List.{List, [], ◌∷◌, ◌++◌, append_assoc, append-nil}
 use Prim.Native.Nat.{ℕ, suc, ◌+◌, ◌-◌, ◌≤◌, ◌<◌}
@@ -7,7 +9,7 @@ use native.Mathlib.Nat.{add-zero, zero-add}
 use native.Mathlib.Numerals.{add-one}
 use native.Mathlib.Omega.{arith}
 use borrow.Author.Tests.{lt-ltb, le-ltb, ltb-false}
-use borrow.Rule.Slice.PartMut.{mid_of}
+use borrow.Rule.Slice.PartMut.{put_mid, mid_of}
 use lib.Dec.{ltb}
 use lib.ListN.{length, take, drop, get_or, length-append, length-drop, drop_of_length-le}
 use lib.Seq.{take-suc, take-add, drop-cons, take_all}
@@ -15,13 +17,14 @@ use Rattle.octets.specs.Bytes.{overlay}
 use Rattle.octets.proofs.Overlay.{length-overlay, overlay-none, overlay-next, overlay-inside}
 use Rattle.octets.proofs.Conditions.{cond-by}
 use Rattle.supervisor.specs.Limits.{most_pending}
-use Rattle.supervisor.specs.Calls.{Parts, parts}
+use Rattle.line.proofs.Rest.{rest-mid, rest-overlay}
+use Rattle.supervisor.specs.Calls.{Parts, parts, take_outcome, take_promise}
 use Rattle.responder.specs.Receive.{ReceiveOutcome, receive_outcome, receive_promise}
-use Rattle.responder.specs.declared.receive.Received.{Received}
-use Rattle.responder.specs.Replay.{take_everything, all_pending, Replayed, replay_byte, replay_bytes}
+use Rattle.refusals.specs.declared.Refusal.{Refusal}
+use Rattle.responder.specs.Replay.{Replayed, replay_byte, replay_bytes}
 use Rattle.replay.specs.Feed.{read_count, FeedOutcome, feed_outcome, feed_promise}
 use Rattle.replay.specs.declared.Fed.{Fed}
-use Rattle.replay.proofs.Taking.{pending-short}
+use Rattle.replay.proofs.Taking.{pending-short, took-so}
 
 -- a replay and then another
 abbrev pub joined : Replayed → Replayed → Replayed
@@ -48,6 +51,26 @@ module _ (bytes : List ℕ) (p : Parts) (i : ℕ) (h : i < length bytes) where
 taken-short : (p : Parts) (b : ℕ) → length (replay_byte [] p b).taken ≤ most_pending
 unfolding replay_byte
 taken-short p b = pending-short (receive_promise [] p (b ∷ [])).parts.outbox
+
+-- a byte received, and all that is then pending taken
+abbrev pub FedByte : Parts → ℕ → List ℕ → ℕ → Parts → List ℕ → Type 0
+FedByte p b room n q room' = record {
+  value : n ≡ length (replay_byte [] p b).taken;
+  parts_after : q ≡ (replay_byte [] p b).parts;
+  room_after : room' ≡ overlay 0 (replay_byte [] p b).taken room;
+}
+
+pub fed_byte : (p : Parts) (b : ℕ) (room : List ℕ) (r : Result ⊤ Refusal) (t : Result ℕ Refusal) {q : Parts} {o room' : List ℕ}
+    → most_pending ≤ length room → receive_outcome r q ≡ receive_promise [] p (b ∷ []) → take_outcome t o room' ≡ take_promise q.outbox room
+    → FedByte p b room (result_unwrap_or t 0) (parts q.reader o q.factory q.settings q.registers) room'
+unfolding replay_byte
+fed_byte p b room r t long e f =
+    let left = ap (λ (x : ReceiveOutcome). x.parts) e in
+    let k = took-so _ room long t f in
+    rw (← left) (record { value = k.count; parts_after = rw k.left; room_after = k.holds })
+
+pub fed-short : (p : Parts) (b : ℕ) {n : ℕ} → n ≡ length (replay_byte [] p b).taken → n ≤ most_pending
+fed-short p b e = rw e (taken-short p b)
 
 -- ---- how many bytes are read
 
@@ -91,6 +114,9 @@ feeding-start bytes room p =
     }
 
 module _ {bytes room₀ room : List ℕ} {p₀ p : Parts} {kept i : ℕ} (f : Feeding bytes room₀ p₀ room p kept i) where
+  pub feeding-long : length room ≡ length room₀
+  feeding-long = ap length f.holds ∙ length-overlay 0 (replay_bytes [] p₀ (take i bytes)).taken room₀ (omega (arith, f.length_kept, f.fits))
+
   -- it stops here
   stopped : read_count p (length room₀ - kept) (drop i bytes) ≡ 0
       → feed_promise bytes room₀ p₀ ≡ record { read = i; kept = kept; room = room; parts = p }
@@ -126,18 +152,12 @@ module _ {bytes room₀ room : List ℕ} {p₀ p : Parts} {kept i : ℕ} (f : Fe
           count = f.count ∙ rw (count-more p (length room₀ - kept) i bytes h long, left) (omega arith);
         }
 
-    one_byte : take (i + 1 - i) (drop i bytes) ≡ get_or bytes i 0 ∷ []
-    one_byte = let e : i + 1 - i ≡ 1 = omega arith in rw (e, drop-cons bytes i 0 h)
-
-    -- by what a receive and the take behind it left
-    pub feeding-next : (r : Received) {q : Parts} {o s : List ℕ} {n : ℕ}
-        → receive_outcome r q ≡ receive_promise [] p (take (i + 1 - i) (drop i bytes))
-        → n ≡ length (all_pending q.outbox) → o ≡ (take_everything q.outbox).outbox → s ≡ overlay kept (all_pending q.outbox) room
-        → Feeding bytes room₀ p₀ s (parts q.reader o q.factory q.settings q.registers) (kept + n) (i + 1)
-    unfolding replay_byte
-    feeding-next r e n o s =
-        let left = ap (λ (x : ReceiveOutcome). x.parts) (rw one_byte at e) in
-        rw (n, o, s, left) fed-more
+    -- by what `feed_byte` left of the rest of the room
+    pub feeding-next : {q : Parts} {rest : List ℕ} {b n : ℕ} → b ≡ get_or bytes i 0
+        → FedByte p b (mid_of kept (length room - kept) room) n q rest
+        → Feeding bytes room₀ p₀ (put_mid kept (length room - kept) room rest) q (kept + n) (i + 1)
+    feeding-next e f =
+        rw (f.value, f.parts_after, f.room_after, e, rest-mid room kept, rest-overlay room kept) fed-more
 
 -- ---- the loop of `feed_all`
 

@@ -1,22 +1,21 @@
 -- Laws of taking all that is pending: every room of sufficient length gets the same bytes.
 -- Assumes nothing.
+use Rattle.std.specs.Prelude.{Result, Ok, Err}
+use Rattle.std.specs.Result.{result_unwrap_or}
 use mathlib.Core.Path.{◌≡◌, refl, sym, ap, ◌∙◌}
 use mathlib.Core.Bool.{Bool, true, false}
 use mathlib.Core.List.{List}
 use Prim.Native.Nat.{ℕ, ◌+◌, ◌-◌, ◌≤◌}
 use native.Mathlib.Nat.{min-eq_right}
 use native.Mathlib.Omega.{arith}
-use lib.ListN.{length, take, drop, length-replicate, length-drop}
-use borrow.Rule.Slice.PartMut.{put_mid, mid_of}
+use lib.ListN.{length, take, length-replicate}
 use Rattle.octets.specs.Bytes.{overlay}
 use Rattle.octets.proofs.Overlay.{length_run, overlay-none, overlay-inside}
-use Rattle.line.proofs.Rest.{rest-mid, rest-overlay}
 use Rattle.supervisor.specs.Limits.{most_pending}
 use Rattle.supervisor.specs.Layout.{outbox_bytes_offset, outbox_from, outbox_to}
 use Rattle.supervisor.specs.Valid.{valid_outbox}
 use Rattle.supervisor.specs.Calls.{TakeReport, TakeOutcome, take_report, take_outcome, takeable, takeable_bytes, take_promise}
-use Rattle.supervisor.specs.declared.outbox.Taken.{Taken}
-use Rattle.supervisor.specs.declared.outbox.Taken.TheVariants.{Moved, Refused}
+use Rattle.refusals.specs.declared.Refusal.{Refusal}
 use Rattle.supervisor.proofs.ValidLaws.{outbox-valid}
 use Rattle.responder.specs.Replay.{whole_room, take_everything, moved_to, all_pending}
 
@@ -88,28 +87,23 @@ module _ (o room : List ℕ) (long : most_pending ≤ length room) where
 pub pending-short : (o : List ℕ) → length (all_pending o) ≤ most_pending
 pending-short o = (took o whole_room (omega (arith, whole_long))).short
 
-pub count-short : (o : List ℕ) {n : ℕ} → n ≡ length (all_pending o) → n ≤ most_pending
-count-short o e = rw e (pending-short o)
+-- a take in such a room: how many bytes it moved, and what it leaves
+pub record TookSo (o room : List ℕ) (r : Result ℕ Refusal) (o' room' : List ℕ) : Type 0 where
+  pub count : result_unwrap_or r 0 ≡ length (all_pending o)
+  pub left : o' ≡ (take_everything o).outbox
+  pub holds : room' ≡ overlay 0 (all_pending o) room
 
--- a take in the bytes of a room from an offset on: what it leaves, and how many bytes it moved
-pub record TookBehind (o room : List ℕ) (at : ℕ) (r : Taken) (o' rest : List ℕ) : Type 0 where
-  pub left : (o' ≡ (take_everything o).outbox) × (put_mid at (length room - at) room rest ≡ overlay at (all_pending o) room)
-  pub moved : {n : ℕ} → r ≡ Moved n → n ≡ length (all_pending o)
-  pub refused : r ≡ Refused → 0 ≡ length (all_pending o)
-
-module _ (o room : List ℕ) (at : ℕ) (long : at + most_pending ≤ length room) (r : Taken) {o' rest : List ℕ}
-    (done : take_outcome r o' rest ≡ take_promise o (mid_of at (length room - at) room)) where
-  pub took-behind : TookBehind o room at r o' rest
-  unfolding take_report
-  took-behind =
-      let t = took o (drop at room) (omega (arith, length-drop at room)) in
-      let d = rw (rest-mid room at) at done ∙ t.whole in
-      let reported = ap (λ (x : TakeOutcome). x.report) d in
-      record {
-        left = (
-          ap (λ (x : TakeOutcome). x.outbox) d,
-          rw (ap (λ (x : TakeOutcome). x.room) d) (rest-overlay room at (all_pending o)),
-        );
-        moved = λ {n} e. t.moves n (rw e at reported);
-        refused = λ e. t.refuses 12 (rw e at reported);
-      }
+pub took-so : (o room : List ℕ) → most_pending ≤ length room → (r : Result ℕ Refusal) {o' room' : List ℕ}
+    → take_outcome r o' room' ≡ take_promise o room → TookSo o room r o' room'
+took-so o room long r done =
+    let t = took o room long in
+    let d = done ∙ t.whole in
+    record {
+      count = by r (ap (λ (x : TakeOutcome). x.report) d);
+      left = ap (λ (x : TakeOutcome). x.outbox) d;
+      holds = ap (λ (x : TakeOutcome). x.room) d;
+    }
+  where
+    by : (r : Result ℕ Refusal) → take_report r ≡ (take_everything o).report → result_unwrap_or r 0 ≡ length (all_pending o)
+    by (Ok n) e = (took o room long).moves n e
+    by (Err why) e = (took o room long).refuses _ e

@@ -5,9 +5,14 @@ use Rattle.std.specs.declared.option.Option.{Option}
 use Rattle.std.specs.Io.KnownBytes.{Consumes, Appends}
 use Rattle.octets.specs.Bytes.{overlay}
 use Rattle.supervisor.specs.Limits.{most_pending}
-use Rattle.supervisor.specs.Calls.{Parts}
+use Rattle.supervisor.specs.Calls.{Parts, parts}
 use Rattle.responder.specs.Replay.{replay_byte, replay_bytes}
 use Rattle.replay.specs.declared.Fed.{Fed}
+use Rattle.replay.specs.declared.Supervisor.{Supervisor}
+
+-- the contents of a supervisor's parts
+abbrev pub parts_held : Supervisor → Parts
+parts_held s = parts s.reader s.outbox s.factory s.settings s.registers
 
 -- how many bytes are read: all, or those ahead of the first where less room is left than all that may be pending
 unfoldable pub read_count : Parts → ℕ → List ℕ → ℕ

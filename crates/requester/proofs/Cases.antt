@@ -1,27 +1,15 @@
--- What settles a contract by cases: a call's answer by its test, and tests that lead to each other.
+-- What settles a contract by cases: tests that lead to each other.
 -- Assumes nothing.
-use mathlib.Core.Path.{◌≡◌, refl, sym, ◌∙◌}
+use mathlib.Core.Path.{◌≡◌, refl}
 use mathlib.Core.Bool.{Bool, true, false, not, ◌&&◌, ◌||◌, false≢true, and-eq-true_iff}
 use Prim.Native.Nat.{ℕ, ◌≤◌}
 use lib.Dec.{leb}
-use borrow.Author.Tests.{leb-true, le-leb, lt-leb, le-ltb, lt-ltb, eq-eqb, ne_eqb}
-
-pub ruleset cases = (le-ltb, lt-ltb, le-leb, lt-leb, eq-eqb, ne_eqb)
-
-pub refused : (r t : Bool) → r ≡ t → r ≡ false → t ≡ false
-refused r t e h = sym e ∙ h
-
-pub passed : (r t : Bool) → r ≡ t → r ≡ true → t ≡ true
-passed r t e h = sym e ∙ h
+use borrow.Author.Tests.{leb-true, le-leb}
 
 -- a test that leads to what cannot be
 pub untrue : (b : Bool) → (b ≡ true → ⊥) → false ≡ b
 untrue true f = absurd (f refl)
 untrue false f = refl
-
-pub alike : (a b : Bool) → (a ≡ true → b ≡ true) → (b ≡ true → a ≡ true) → a ≡ b
-alike true b f g = sym (f refl)
-alike false b f g = untrue b (λ e. false≢true (g e))
 
 -- a test that is required where another holds
 pub implied : (a b : Bool) → (not a || b) ≡ true → a ≡ true → b ≡ true

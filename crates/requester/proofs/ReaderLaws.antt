@@ -1,7 +1,7 @@
 -- Laws of the line reader's calls: its state stays valid, the data's length that it reports fits a message, and what its tail reports.
 -- Assumes nothing.
-use mathlib.Core.Path.{◌≡◌, refl}
-use mathlib.Core.Bool.{Bool, true, false, cond}
+use mathlib.Core.Path.{◌≡◌, refl, ap, ◌∙◌}
+use mathlib.Core.Bool.{Bool, true, false, cond, false≢true}
 use mathlib.Core.List.{List, [], ◌∷◌}
 use mathlib.Core.Option.{Option, none, some}
 use Prim.Native.Nat.{ℕ, zero, suc, ◌≤◌, ◌<◌, min}
@@ -58,11 +58,40 @@ take_min n piece = by (leb n (length piece)) refl
         let m : min n (length piece) ≡ length piece = omega arith in
         rw (m, take_all (length piece) piece (omega arith), take_all n piece (omega arith))
 
+-- ---- a refusal
+
+-- a report of no refusal
+abbrev given : LineReader.ReadReport → Bool
+given (LineReader.refused n) = false
+given LineReader.more = true
+given LineReader.empty = true
+given (LineReader.failed reason sequence) = true
+given (LineReader.message version sequence command n) = true
+
+closed-given : (v : Option LineVerdict) → given (LineReader.closed_report v) ≡ true
+unfolding LineReader.verdict_report
+closed-given none = refl
+closed-given (some (failure reason sequence)) = refl
+closed-given (some (good m)) = refl
+
+piece-given : (piece s : List ℕ) → given (LineReader.read_piece s piece).answer ≡ true
+unfolding LineReader.read_piece LineReader.one_byte_later LineReader.finish
+piece-given [] s = refl
+piece-given (zero ∷ bs) s = closed-given (judge_received (received_of s))
+piece-given (suc b ∷ bs) s = rw eqb-suc-zero (piece-given bs (LineReader.pushed s (suc b)))
+
+-- a valid state's piece is not refused
+pub read-given : (s piece : List ℕ) {n : ℕ} {t : List ℕ} → LineReader.valid_reader s ≡ true
+    → record { used = 0; answer = LineReader.refused n; state = t } ≡ LineReader.read_promise s piece → ⊥
+read-given s piece v e =
+    let f = read_by s piece v e in
+    false≢true (ap (λ (o : LineReader.ReadOutcome). given o.answer) f ∙ piece-given piece s)
+
 -- ---- the tail
 
 -- what holds of a state by an answer of `tail`
 abbrev pub TailHolds : List ℕ → LineReader.TailReport → Type 0
-TailHolds s (LineReader.TailReport.refused n) = LineReader.valid_reader s ≡ false
+TailHolds s (LineReader.TailReport.refused n) = (LineReader.valid_reader s ≡ false) × (n ≡ 12)
 TailHolds s (LineReader.unfinished n) =
     (LineReader.valid_reader s ≡ true) × (LineReader.tail_promise s ≡ LineReader.unfinished n) × (n ≤ longest_form)
 TailHolds s LineReader.longer = (LineReader.valid_reader s ≡ true) × (LineReader.tail_promise s ≡ LineReader.longer)
@@ -73,6 +102,6 @@ tail-holds s e = rw e (by (LineReader.valid_reader s) (received_of s) refl refl)
   where
     by : (v : Bool) (o : Option (List ℕ)) → LineReader.valid_reader s ≡ v → received_of s ≡ o
         → TailHolds s (cond v (LineReader.tail_of o) (LineReader.TailReport.refused 12))
-    by false o v r = v
+    by false o v r = (v, refl)
     by true none v r = (v, rw (v, r))
     by true (some bs) v r = (v, rw (v, r), received-most s bs r v)

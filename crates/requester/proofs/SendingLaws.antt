@@ -3,26 +3,28 @@
 use mathlib.Core.Path.{◌≡◌, refl, ap}
 use mathlib.Core.Bool.{Bool, true, false, cond}
 use mathlib.Core.List.{List, [], ◌++◌, append-nil}
-use mathlib.Core.Option.{Option}
+use Rattle.std.specs.Prelude as Std
 use Prim.Native.Nat.{ℕ, ◌+◌, ◌-◌, ◌≤◌, ◌<◌}
 use native.Mathlib.Nat.{add-sub_cancel_left}
 use native.Mathlib.Numerals.{add-one}
 use native.Mathlib.Omega.{arith}
-use lib.Dec.{ltb, eqb}
+use lib.Dec.{ltb}
 use lib.ListN.{length, take, drop, set, length-take}
-use borrow.Author.Tests.{le-ltb, lt-ltb, le-leb, lt-leb, ne_eqb}
+use borrow.Author.Tests.{le-ltb, lt-ltb, le-leb, lt-leb}
 use Rattle.octets.specs.Bytes.{overlay, run}
-use Rattle.octets.proofs.Conditions.{cond_both}
 use Rattle.octets.proofs.Overlay.{overlay-one}
 use Rattle.line.specs.Limits.{longest_data}
 use Rattle.line.specs.Writer
 use Rattle.requester.specs.Limits.{last_number}
-use Rattle.requester.specs.State.{Request, RecoveryStep, step_request, request_frame}
+use Rattle.requester.specs.State.{Request, step_request, request_frame}
 use Rattle.requester.specs.Layout
 use Rattle.requester.specs.Valid.{valid_requester}
 use Rattle.requester.specs.Calls
 use Rattle.requester.specs.Calls.{PutOutcome, put_outcome, put_into, wrote, refused, with_request, request_promise}
-use Rattle.requester.specs.Hearing.{step_command}
+use Rattle.requester.specs.Progress.{ProgressIn, recovery_report, step_command}
+use Rattle.requester.specs.declared.step.Step.{Step}
+use Rattle.requester.specs.declared.step.Step.TheVariants as step
+use Rattle.requester.specs.declared.progress.Progress.{Progress}
 use Rattle.requester.proofs.ValidLaws.{RequesterValid, requester-valid}
 
 -- ---- what the writer answered
@@ -37,35 +39,26 @@ sent_if b bs out = cond b (answering (Writer.refused 8) out) (answering (Writer.
 abbrev put_if : Bool → List ℕ → List ℕ → List ℕ → List ℕ → PutOutcome
 put_if b bs out before after = cond b (put_outcome (refused 8) out before) (put_outcome (wrote (length bs)) (overlay 0 bs out) after)
 
-module _ (bs out before after : List ℕ) {a : Writer.WriteReport} {room : List ℕ} where
-  wrote_by : (b : Bool) (n : ℕ) → a ≡ Writer.wrote n → answering a room ≡ sent_if b bs out
+module _ (bs out before after : List ℕ) {n : ℕ} {room : List ℕ} where
+  wrote_by : (b : Bool) → answering (Writer.wrote n) room ≡ sent_if b bs out
       → put_outcome (wrote n) room after ≡ put_if b bs out before after
-  wrote_by true n f e = let z : ◌≡◌ {A = ℕ} 0 1 = cc (ap (λ (o : Writer.WriteOutcome). o.answer) e) in absurd (omega arith)
-  wrote_by false n f e =
-      let k : n ≡ length bs = cc (ap (λ (o : Writer.WriteOutcome). o.answer) e) in
-      rw (k, ap (λ (o : Writer.WriteOutcome). o.out) e)
+  wrote_by true e = let f = ap (λ (o : Writer.WriteOutcome). o.answer) e in cc
+  wrote_by false e = let f = ap (λ (o : Writer.WriteOutcome). o.answer) e in let g = ap (λ (o : Writer.WriteOutcome). o.out) e in cc
 
-  short-by : (b : Bool) → a ≡ Writer.refused 8 → answering a room ≡ sent_if b bs out
-      → put_outcome (refused 8) room before ≡ put_if b bs out before after
-  short-by true f e = rw (ap (λ (o : Writer.WriteOutcome). o.out) e)
-  short-by false f e = let z : ◌≡◌ {A = ℕ} 0 1 = cc (ap (λ (o : Writer.WriteOutcome). o.answer) e) in absurd (omega arith)
+  refused-by : (b : Bool) → answering (Writer.refused n) room ≡ sent_if b bs out
+      → put_outcome (refused n) room before ≡ put_if b bs out before after
+  refused-by true e = let f = ap (λ (o : Writer.WriteOutcome). o.answer) e in let g = ap (λ (o : Writer.WriteOutcome). o.out) e in cc
+  refused-by false e = let f = ap (λ (o : Writer.WriteOutcome). o.answer) e in cc
 
-  never-by : (b : Bool) → a ≡ Writer.refused 9 → answering a room ≡ sent_if b bs out → ⊥
-  never-by true f e = let k : ◌≡◌ {A = ℕ} 8 9 = cc (ap (λ (o : Writer.WriteOutcome). o.answer) e) in omega arith
-  never-by false f e = let z : ◌≡◌ {A = ℕ} 0 1 = cc (ap (λ (o : Writer.WriteOutcome). o.answer) e) in omega arith
+  pub put-wrote : answering (Writer.wrote n) room ≡ Writer.write_into bs out
+      → put_outcome (wrote n) room after ≡ put_into bs out before after
+  unfolding Writer.write_into put_into
+  put-wrote e = wrote_by (ltb (length out) (length bs)) e
 
-  module _ (e : answering a room ≡ Writer.write_into bs out) where
-    pub put-wrote : (n : ℕ) → a ≡ Writer.wrote n → put_outcome (wrote n) room after ≡ put_into bs out before after
-    unfolding Writer.write_into put_into
-    put-wrote n f = wrote_by (ltb (length out) (length bs)) n f e
-
-    pub put-short : a ≡ Writer.refused 8 → put_outcome (refused 8) room before ≡ put_into bs out before after
-    unfolding Writer.write_into put_into
-    put-short f = short-by (ltb (length out) (length bs)) f e
-
-    pub put-never : a ≡ Writer.refused 9 → ⊥
-    unfolding Writer.write_into
-    put-never f = never-by (ltb (length out) (length bs)) f e
+  pub put-refused : answering (Writer.refused n) room ≡ Writer.write_into bs out
+      → put_outcome (refused n) room before ≡ put_into bs out before after
+  unfolding Writer.write_into put_into
+  put-refused e = refused-by (ltb (length out) (length bs)) e
 
 -- the frame of a message whose data fit
 pub written : (n : ℕ) (q : Request) (out head rest : List ℕ) {o : Writer.WriteOutcome} → length q.payload ≤ longest_data
@@ -105,54 +98,48 @@ module _ (r : List ℕ) (command : ℕ) (d out : List ℕ) where
           unfolding request_promise
           accepted = rw (v, le-ltb longest_data (length d) h, f, ← e, lt-leb last_number n l, add-one)
 
-          module _ {a : Writer.WriteReport} {room : List ℕ}
-              (w : answering a room ≡ Writer.write_promise (Writer.message_of_parts 1 (n + 1) command d []) out) where
-            sent : answering a room ≡ Writer.write_into (request_frame (n + 1) asked) out
-            sent = written (n + 1) asked out d [] h (append-nil d) w
+          module _ {k : ℕ} {room : List ℕ} where
+            pub request-done : {r' : List ℕ}
+                → answering (Writer.wrote k) room ≡ Writer.write_promise (Writer.message_of_parts 1 (n + 1) command d []) out
+                → r' ≡ with_request (n + 1) command d r → put_outcome (wrote k) room r' ≡ request_promise r command d out
+            request-done w u = rw (accepted, u) (put-wrote _ out r _ (written (n + 1) asked out d [] h (append-nil d) w))
 
-            pub request-done : (k : ℕ) {r' : List ℕ} → a ≡ Writer.wrote k → r' ≡ with_request (n + 1) command d r
-                → put_outcome (wrote k) room r' ≡ request_promise r command d out
-            request-done k g u = rw (accepted, u) (put-wrote _ out r _ sent k g)
-
-            pub request-short : a ≡ Writer.refused 8 → put_outcome (refused 8) room r ≡ request_promise r command d out
-            request-short g = rw accepted (put-short _ out r _ sent g)
-
-            pub request-never : a ≡ Writer.refused 9 → ⊥
-            request-never g = put-never _ out r r sent g
+            pub request-unwritten :
+                answering (Writer.refused k) room ≡ Writer.write_promise (Writer.message_of_parts 1 (n + 1) command d []) out
+                → put_outcome (refused k) room r ≡ request_promise r command d out
+            request-unwritten w = rw accepted (put-refused _ out r _ (written (n + 1) asked out d [] h (append-nil d) w))
 
 -- ---- the one outstanding
 
-pub step-request : (n : ℕ) (q : Request) → (n ≡ 0 → ⊥)
-    → Layout.request_in (Layout.step_at n) q ≡ record { command = step_command n; payload = [] }
-unfolding Layout.step_at step_command step_request
-step-request n q h =
-    rw (ne_eqb n 0 h) (cond_both Asks (eqb n 1) (λ _. refl) (λ _. cond_both Asks (eqb n 2) (λ _. refl) (λ _. refl)))
-  where
-    Asks : Option RecoveryStep → ℕ → Type 0
-    Asks t command = Layout.request_in t q ≡ record { command = command; payload = [] }
+pub step-request : (t : Step) (q : Request)
+    → Layout.request_in (recovery_report (Std.Some t)) q ≡ record { command = step_command t; payload = [] }
+unfolding step_request
+step-request step.Fetch q = refl
+step-request step.Acknowledge q = refl
+step-request step.Alert q = refl
 
-module _ (r out : List ℕ) (v : RequesterValid r) {n t : ℕ} (e : n ≡ Layout.newest_number r) (f : t ≡ Layout.recovery_of r)
-    {o : Writer.WriteOutcome} where
-  pub kept-written : {command k : ℕ} → t ≡ 0 → k ≡ Layout.kept_length r → command ≡ Layout.kept_command r
+module _ (r out : List ℕ) (v : RequesterValid r) (p : Progress) (e : ProgressIn r p) {o : Writer.WriteOutcome} where
+  pub kept-written : {command k : ℕ} → p.recovery ≡ Std.None → k ≡ Layout.kept_length r → command ≡ Layout.kept_command r
       → o ≡ Writer.write_promise
-      (Writer.message_of_parts 1 n command (take (Layout.kept_data_offset + k - Layout.kept_data_offset) (drop Layout.kept_data_offset r))
-      [])
+      (Writer.message_of_parts 1 p.number command
+      (take (Layout.kept_data_offset + k - Layout.kept_data_offset) (drop Layout.kept_data_offset r)) [])
       out
       → o ≡ Writer.write_into (request_frame (Layout.newest_number r) (Layout.out_request r)) out
-  unfolding Layout.out_request Layout.kept_request Layout.step_at
-  kept-written {command} {k} z p q w =
+  unfolding Layout.out_request Layout.kept_request
+  kept-written {command} {k} z l q w =
       let d = run Layout.kept_data_offset k r in
-      let l = length-take k (drop Layout.kept_data_offset r) in
-      rw (← e, ← f, z, ← p, ← q)
-      (written n (record { command = command; payload = d }) out d [] (omega (arith, v)) (append-nil d) (rw add-sub_cancel_left at w))
+      let m = length-take k (drop Layout.kept_data_offset r) in
+      rw (← e.number, ← e.recovery, z, ← l, ← q)
+      (written p.number (record { command = command; payload = d }) out d [] (omega (arith, v)) (append-nil d)
+      (rw add-sub_cancel_left at w))
 
-  pub step-written : {command : ℕ} → (t ≡ 0 → ⊥) → command ≡ step_command t
-      → o ≡ Writer.write_promise (Writer.message_of_parts 1 n command [] []) out
+  pub step-written : (t : Step) → p.recovery ≡ Std.Some t
+      → o ≡ Writer.write_promise (Writer.message_of_parts 1 p.number (step_command t) [] []) out
       → o ≡ Writer.write_into (request_frame (Layout.newest_number r) (Layout.out_request r)) out
   unfolding Layout.out_request
-  step-written {command} z p w =
-      rw (← e, ← f, step-request t (Layout.kept_request r) z, ← p)
-      (written n (record { command = command; payload = [] }) out [] [] (omega arith) refl w)
+  step-written t z w =
+      rw (← e.number, ← e.recovery, z, step-request)
+      (written p.number (record { command = step_command t; payload = [] }) out [] [] (omega arith) refl w)
 
 -- ---- a call of send
 
@@ -166,17 +153,17 @@ module _ (r out : List ℕ) where
     unfolding Calls.send_promise
     send-nothing u = rw (v, u)
 
-    module _ (u : Layout.is_unsent r ≡ true) {a : Writer.WriteReport} {room : List ℕ}
-        (w : answering a room ≡ Writer.write_into (request_frame (Layout.newest_number r) (Layout.out_request r)) out) where
-      pub send-done : (n : ℕ) → a ≡ Writer.wrote n → put_outcome (wrote n) room (set r Layout.unsent_offset 0) ≡ Calls.send_promise r out
+    module _ (u : Layout.is_unsent r ≡ true) {n : ℕ} {room : List ℕ} where
+      pub send-done : answering (Writer.wrote n) room
+          ≡ Writer.write_into (request_frame (Layout.newest_number r) (Layout.out_request r)) out
+          → put_outcome (wrote n) room (set r Layout.unsent_offset 0) ≡ Calls.send_promise r out
       unfolding Calls.send_promise
-      send-done n g =
+      send-done w =
           rw (v, u, overlay-one Layout.unsent_offset 0 r (omega (arith, (requester-valid r v).long)))
-          (put-wrote _ out r _ w n g)
+          (put-wrote _ out r _ w)
 
-      pub send-short : a ≡ Writer.refused 8 → put_outcome (refused 8) room r ≡ Calls.send_promise r out
+      pub send-unwritten : answering (Writer.refused n) room
+          ≡ Writer.write_into (request_frame (Layout.newest_number r) (Layout.out_request r)) out
+          → put_outcome (refused n) room r ≡ Calls.send_promise r out
       unfolding Calls.send_promise
-      send-short g = rw (v, u) (put-short _ out r _ w g)
-
-      pub send-never : a ≡ Writer.refused 9 → ⊥
-      send-never g = put-never _ out r r w g
+      send-unwritten w = rw (v, u) (put-refused _ out r _ w)

@@ -1,8 +1,11 @@
 -- What each call answers and leaves in the bytes that it is lent (document 02, item 2).
 -- Assumes nothing: these are definitions.
 use Rattle.std.specs.Prelude.{Bool, true, false, cond, ◌&&◌, List, [], ◌∷◌, ◌++◌, ℕ, suc, ◌-◌, leb, ltb, eqb, length, take, replicate, ◌≡◌}
-use Rattle.std.specs.Prelude.{◌≤◌}
+use Rattle.std.specs.Prelude.{◌≤◌, Result, Ok, Err, ⊤}
+use Rattle.std.specs.Prelude as Std
 use Rattle.std.proofs.Math.Option.{Option, none, some}
+use Rattle.refusals.specs.declared.Refusal.{Refusal}
+use Rattle.refusals.specs.Refusals.{table_number}
 use Rattle.octets.specs.Bytes.{bytes, overlay}
 use Rattle.line.specs.Limits.{longest_data, longest_form}
 use Rattle.line.specs.Judge.{failure, good}
@@ -14,22 +17,12 @@ use Rattle.requester.specs.Requester
 use Rattle.requester.specs.Requester.{Heard, ground, HeardOutcome, stays_out, hear, settle}
 use Rattle.requester.specs.Layout
 use Rattle.requester.specs.Valid.{valid_requester}
-use Rattle.requester.specs.declared.start.Started.{Started}
-use Rattle.requester.specs.declared.start.Started.TheVariants as started
-use Rattle.requester.specs.declared.sending.Requested.{Requested}
-use Rattle.requester.specs.declared.sending.Requested.TheVariants as requested
-use Rattle.requester.specs.declared.sending.Sent.{Sent}
-use Rattle.requester.specs.declared.sending.Sent.TheVariants as sent
-use Rattle.requester.specs.declared.recovery.Interrupted.{Interrupted}
-use Rattle.requester.specs.declared.recovery.Interrupted.TheVariants as interrupted
 use Rattle.requester.specs.declared.outcome.Handed.{Handed}
 use Rattle.requester.specs.declared.outcome.Handed.TheVariants as handed
 use Rattle.requester.specs.declared.receive.Received.{Received}
 use Rattle.requester.specs.declared.state.Stage.{Stage}
 use Rattle.requester.specs.declared.state.Stage.TheVariants as stage
 use Rattle.requester.specs.declared.state.Standing.{Standing}
-use Rattle.requester.specs.declared.state.Stated.{Stated}
-use Rattle.requester.specs.declared.state.Stated.TheVariants as stated
 
 -- ---- Start
 
@@ -50,15 +43,15 @@ main_fresh_parts p =
     main_parts (LineReader.reader_start_promise p.reader).state (overlay 0 (replicate Layout.requester_length 0) p.requester)
 
 -- the table's number of a refusal; none where the call is carried out
-unfoldable pub main_start_report : Started → Option ℕ
-main_start_report started.Done = none
-main_start_report started.Refused = some 12
+unfoldable pub main_start_report : Result ⊤ Refusal → Option ℕ
+main_start_report (Ok u) = none
+main_start_report (Err why) = some (table_number why)
 
 pub record MainStartOutcome : Type 0 where
   pub refusal : Option ℕ
   pub parts : MainParts
 
-abbrev pub main_start_outcome : Started → MainParts → MainStartOutcome
+abbrev pub main_start_outcome : Result ⊤ Refusal → MainParts → MainStartOutcome
 main_start_outcome r p = record { refusal = main_start_report r; parts = p }
 
 -- the room alone is tested
@@ -78,18 +71,13 @@ pub data PutReport : Type 0 where
   wrote : ℕ → PutReport
   refused : ℕ → PutReport
 
-unfoldable pub request_report : Requested → PutReport
-request_report requested.Refused = refused 12
-request_report requested.TooLong = refused 9
-request_report requested.Outstanding = refused 17
-request_report requested.NoNumber = refused 14
-request_report requested.NoRoom = refused 8
-request_report (requested.Done n) = wrote n
+unfoldable pub request_report : Result ℕ Refusal → PutReport
+request_report (Ok n) = wrote n
+request_report (Err why) = refused (table_number why)
 
-unfoldable pub send_report : Sent → PutReport
-send_report sent.Refused = refused 12
-send_report sent.NoRoom = refused 8
-send_report (sent.Done n) = wrote n
+unfoldable pub send_report : Result ℕ Refusal → PutReport
+send_report (Ok n) = wrote n
+send_report (Err why) = refused (table_number why)
 
 -- what a call answered, the room and the part as it left them
 pub record PutOutcome : Type 0 where
@@ -134,10 +122,9 @@ send_promise r out =
 
 -- ---- Interrupt
 
-unfoldable pub interrupt_report : Interrupted → Option ℕ
-interrupt_report interrupted.Done = none
-interrupt_report interrupted.Refused = some 12
-interrupt_report interrupted.NoNumber = some 14
+unfoldable pub interrupt_report : Result ⊤ Refusal → Option ℕ
+interrupt_report (Ok u) = none
+interrupt_report (Err why) = some (table_number why)
 
 pub record InterruptOutcome : Type 0 where
   pub refusal : Option ℕ
@@ -169,12 +156,11 @@ pub data HandedReport : Type 0 where
   status : ℕ → ℕ → ℕ → HandedReport
   alerted : ℕ → ℕ → ℕ → ℕ → HandedReport
 
-unfoldable pub handed_report : Handed → HandedReport
-handed_report handed.Refused = HandedReport.refused 12
-handed_report handed.Nothing = nothing
-handed_report (handed.Answer h) = answered h.version h.sequence h.command h.length
-handed_report (handed.Status s) = status s.status s.options s.set_bits
-handed_report (handed.Alert h) = alerted h.version h.sequence h.command h.length
+unfoldable pub handed_report : Std.Option Handed → HandedReport
+handed_report Std.None = nothing
+handed_report (Std.Some (handed.Answer h)) = answered h.version h.sequence h.command h.length
+handed_report (Std.Some (handed.Status s)) = status s.status s.options s.set_bits
+handed_report (Std.Some (handed.Alert h)) = alerted h.version h.sequence h.command h.length
 
 unfoldable pub handed_report_of : Requester.Handed → HandedReport
 handed_report_of Requester.nothing = nothing
@@ -246,8 +232,16 @@ pub record MainReceiveOutcome : Type 0 where
   pub unsent : Bool
   pub parts : MainParts
 
-abbrev pub main_receive_outcome : Received → MainParts → MainReceiveOutcome
-main_receive_outcome r p = record {
+-- a refusal reads nothing, ends nothing and tells of no frame
+abbrev pub main_receive_outcome : Result Received Refusal → MainParts → MainReceiveOutcome
+main_receive_outcome (Err why) p = record {
+  used = 0;
+  report = HandedReport.refused (table_number why);
+  ended = none;
+  unsent = false;
+  parts = p;
+}
+main_receive_outcome (Ok r) p = record {
   used = r.used;
   report = handed_report r.handed;
   ended = end_report r.ended;
@@ -303,9 +297,9 @@ standing_report s = record {
   original = s.original;
 }
 
-unfoldable pub state_report : Stated → StateReport
-state_report stated.Refused = StateReport.refused 12
-state_report (stated.Done s) = stands (standing_report s)
+unfoldable pub state_report : Result Standing Refusal → StateReport
+state_report (Ok s) = stands (standing_report s)
+state_report (Err why) = StateReport.refused (table_number why)
 
 -- the one outstanding
 unfoldable pub part_standing : List ℕ → State.Standing

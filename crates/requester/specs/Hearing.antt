@@ -1,37 +1,34 @@
 -- What the contracts of the functions that settle a frame cite: document 02's words for their answers.
 -- Assumes nothing: these are definitions.
-use Rattle.std.specs.Prelude.{Bool, true, cond, List, ℕ, leb, eqb}
-use Rattle.std.proofs.Math.Option.{none, some}
+use Rattle.std.specs.Prelude.{Bool, true, List, ℕ, leb}
+use Rattle.std.proofs.Math.Option.{Option, none, some}
 use Rattle.line.specs.Limits.{longest_data}
-use Rattle.line.specs.Numbers.{command_status, command_start_acknowledged, command_alert}
 use Rattle.line.specs.Message.{Message}
 use Rattle.line.specs.Reader as LineReader
 use Rattle.line.specs.declared.reader.Head.{Head}
-use Rattle.requester.specs.State.{fetch, acknowledge, alert}
 use Rattle.requester.specs.Requester
 use Rattle.requester.specs.Calls.{HandedReport, handed_report, handed_report_of}
+use Rattle.requester.specs.Progress.{recovery_report}
 use Rattle.requester.specs.declared.hearing.Heard.{Heard}
 use Rattle.requester.specs.declared.hearing.Heard.TheVariants as heard
 use Rattle.requester.specs.declared.outcome.Next.{Next}
 use Rattle.requester.specs.declared.outcome.Next.TheVariants as next
 use Rattle.requester.specs.declared.outcome.Outcome.{Outcome}
+use Rattle.requester.specs.declared.progress.Progress.{Progress}
 
 -- a message by its head and its data
 abbrev pub head_message : Head → List ℕ → Message
 head_message h d = record { version = h.version; sequence = h.sequence; command = h.command; payload = d }
 
-unfoldable pub heard_report : Heard → Message → Requester.Heard
+abbrev pub heard_report : Heard → Message → Requester.Heard
 heard_report heard.Ground m = Requester.ground
 heard_report heard.Other m = Requester.other
 heard_report heard.Answer m = Requester.answer m
 
-unfoldable pub next_of : Next → Requester.Next
+abbrev pub next_of : Next → Requester.Next
 next_of next.Same = Requester.same
 next_of next.Again = Requester.again
-next_of next.Fetch = Requester.anew (some fetch)
-next_of next.Acknowledge = Requester.anew (some acknowledge)
-next_of next.Alert = Requester.anew (some alert)
-next_of next.Original = Requester.anew none
+next_of (next.Anew t) = Requester.anew (recovery_report t)
 next_of next.Idle = Requester.idle
 
 -- what is handed out, in numbers, and what comes next
@@ -53,6 +50,7 @@ data_fit LineReader.empty = true
 data_fit (LineReader.failed reason sequence) = true
 data_fit (LineReader.message version sequence command n) = leb n longest_data
 
--- the command of the step with this number
-unfoldable pub step_command : ℕ → ℕ
-step_command n = cond (eqb n 1) command_status (cond (eqb n 2) command_start_acknowledged command_alert)
+-- what comes of what was heard
+unfoldable pub heard_in : Progress → Option Requester.Heard → Requester.HeardOutcome
+heard_in p none = Requester.heard_outcome Requester.nothing Requester.same
+heard_in p (some h) = Requester.settle (recovery_report p.recovery) p.kept h

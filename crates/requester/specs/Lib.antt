@@ -7,4 +7,5 @@ pub mod Layout
 pub mod Valid
 pub mod Number
 pub mod Calls
+pub mod Progress
 pub mod Hearing

@@ -1,25 +1,25 @@
 // What a received frame is to the one outstanding, what it hands out, and what comes next.
-// Assumes a valid part, and a reader's answer whose data it holds, as each `requires` states.
-ghost use Rattle.std.specs.Prelude.{◌≡◌, true, cond, ◌&&◌, ◌||◌, List, ℕ, ◌≤◌, ◌<◌, eqb};
+// Assumes a reader's answer whose data it holds, and a newest number without the top bit, as each `requires` states.
+ghost use Rattle.std.specs.Prelude.{◌≡◌, true, cond, ◌&&◌, ◌||◌, List, ℕ, ◌<◌, eqb};
 ghost use Rattle.std.proofs.Math.Option.{none, some};
-ghost use Rattle.line.specs.Limits.{longest_data};
 ghost use Rattle.line.specs.Numbers.{top_bit, all_ones, reply_decode_failure};
 ghost use Rattle.line.specs.Judge.{good};
-ghost use Rattle.line.specs.Reader.{read_report, data_promise, valid_reader as reader_valid};
-ghost use Rattle.requester.specs.Requester.{hear, ground, nothing, same, heard_outcome, serve, fetched, answered_in};
-ghost use Rattle.requester.specs.Layout.{newest_number, recovery_step, is_kept};
-ghost use Rattle.requester.specs.Valid.{valid_requester};
-ghost use Rattle.requester.specs.Calls.{is_overlong, heard_of, heard_outcome_of};
-ghost use Rattle.requester.specs.Hearing.{head_message, heard_report, next_of, outcome_report, outcome_report_of, data_fit};
+ghost use Rattle.line.specs.Reader.{read_report, valid_reader as reader_valid};
+ghost use Rattle.requester.specs.Requester.{hear, ground, serve, fetched, answered_in};
+ghost use Rattle.requester.specs.Calls.{is_overlong, heard_of};
+ghost use Rattle.requester.specs.Progress.{recovery_report};
+ghost use Rattle.requester.specs.Hearing.{head_message, heard_report, next_of, outcome_report, outcome_report_of, heard_in, data_fit};
 
+use crate::message::Message;
 use crate::number::{ReplyNumber, RequestNumber, reply_to};
 use crate::outcome::{Handed, Next, Outcome, Status};
-use crate::{layout, progress};
+use crate::progress::Progress;
+use crate::step::Step;
 use line::numbers;
 use line::reader::{Answer, Head, Unfinished};
 
 // What a good message is to the one outstanding.
-#[derive(Drop)]
+#[derive(Clone, Copy, Debug, PartialEq, Eq)]
 pub(crate) enum Heard {
     Ground,
     Other,
@@ -30,13 +30,8 @@ pub(crate) enum Heard {
 fn fails_decode(expected: ReplyNumber, sequence: u64, command: u8) -> bool
     ensures { result ≡ (eqb command reply_decode_failure && (eqb sequence expected.0 || eqb sequence all_ones)) }
 {
-    if command != numbers::REPLY_DECODE_FAILURE {
-        return false;
-    }
-    if sequence == expected.0 {
-        return true;
-    }
-    sequence == numbers::ALL_ONES
+    command == numbers::REPLY_DECODE_FAILURE
+        && (sequence == expected.0 || sequence == numbers::ALL_ONES)
 }
 
 // By the newest number: a ground for sending the same bytes again, another reply, or the answer.
@@ -65,172 +60,116 @@ fn serve(original: bool, status: u64) -> Next
     ensures { next_of result ≡ serve original status }
 {
     if status % 2 == 1 {
-        return Next::Acknowledge;
+        return Next::Anew(Some(Step::Acknowledge));
     }
     if status / 2 % 2 == 1 {
-        return Next::Alert;
+        return Next::Anew(Some(Step::Alert));
     }
     if original {
-        return Next::Original;
+        return Next::Anew(None);
     }
     Next::Idle
 }
 
 // The answer to a recovery's fetch.
-fn settle_fetch(reader: &[u8], original: bool, head: Head) -> Outcome
-    requires reader_value { reader_valid reader.now ≡ true }
-    requires length_le_longest_data { head.length ≤ longest_data }
+fn settle_fetch(original: bool, message: Message) -> Outcome
     ensures { outcome_report result
-        ≡ outcome_report_of (fetched original (head_message head (data_promise reader.now head.length))) }
+        ≡ outcome_report_of (fetched original (head_message message.entry.head message.entry.data.now)) }
 {
+    let Message { head, data } = message;
     if head.command != numbers::REPLY_STATUS {
-        return Outcome {
-            handed: Handed::Nothing,
-            next: Next::Again,
-        };
+        return Outcome::silent(Next::Again);
     }
     if head.length != numbers::STATUS_LENGTH {
-        return Outcome {
-            handed: Handed::Nothing,
-            next: Next::Again,
-        };
+        return Outcome::silent(Next::Again);
     }
-    let data = line::reader::message_data(reader, head.length);
     let status = octets::read_u64(data, 0);
-    let options = octets::read_u64(data, 8);
-    let set_bits = u64::count_ones(status);
-    let next = serve(original, status);
+    let handed = Handed::Status(Status {
+        status,
+        options: octets::read_u64(data, 8),
+        set_bits: status.count_ones(),
+    });
     Outcome {
-        handed: Handed::Status(Status {
-            status,
-            options,
-            set_bits,
-        }),
-        next,
+        handed: Some(handed),
+        next: serve(original, status),
     }
 }
 
 // The answer to the one outstanding.
-fn settle_answer(reader: &[u8], requester: &[u8], head: Head) -> Outcome
-    requires reader_value { reader_valid reader.now ≡ true }
-    requires length_le_longest_data { head.length ≤ longest_data }
+#[tactic(auto, unfolding(crate::specs::Calls::handed_report, crate::specs::Calls::handed_report_of))]
+fn settle_answer(now: Progress, message: Message) -> Outcome
     ensures { outcome_report result
         ≡ outcome_report_of
-        (answered_in (recovery_step requester.now) (is_kept requester.now)
-        (head_message head (data_promise reader.now head.length))) }
+        (answered_in (recovery_report now.recovery) now.kept (head_message message.entry.head message.entry.data.now)) }
 {
-    let step = octets::read_u8(requester, layout::RECOVERY_OFFSET);
-    if step == layout::NO_STEP {
-        return Outcome {
-            handed: Handed::Answer(head),
+    match now.recovery {
+        None => Outcome {
+            handed: Some(Handed::Answer(message.head)),
             next: Next::Idle,
-        };
-    }
-    if step == layout::FETCH {
-        return settle_fetch(reader, progress::is_kept(requester), head);
-    }
-    if step == layout::ACKNOWLEDGE {
-        return Outcome {
-            handed: Handed::Nothing,
-            next: Next::Fetch,
-        };
-    }
-    Outcome {
-        handed: Handed::Alert(head),
-        next: Next::Fetch,
+        },
+        Some(Step::Fetch) => settle_fetch(now.kept, message),
+        Some(Step::Acknowledge) => Outcome::silent(Next::Anew(Some(Step::Fetch))),
+        Some(Step::Alert) => Outcome {
+            handed: Some(Handed::Alert(message.head)),
+            next: Next::Anew(Some(Step::Fetch)),
+        },
     }
 }
 
 // A good message.
-fn settle_message(reader: &[u8], requester: &[u8], head: Head) -> Outcome
-    requires reader_value { reader_valid reader.now ≡ true }
-    requires requester_value { valid_requester requester.now ≡ true }
-    requires length_le_longest_data { head.length ≤ longest_data }
+fn settle_message(now: Progress, message: Message) -> Outcome
+    requires { now.number < top_bit }
     ensures { outcome_report result
         ≡ outcome_report_of
-        (heard_outcome_of requester.now
-        (some
-        (hear (newest_number requester.now) (good (head_message head (data_promise reader.now head.length)))))) }
+        (heard_in now (some (hear now.number (good (head_message message.entry.head message.entry.data.now))))) }
 {
-    if !progress::is_outstanding(requester) {
-        return Outcome {
-            handed: Handed::Nothing,
-            next: Next::Same,
-        };
+    if !now.is_outstanding() {
+        return Outcome::silent(Next::Same);
     }
-    let newest = octets::read_u64(requester, layout::NUMBER_OFFSET);
-    let heard = hear(RequestNumber(newest), head);
-    match heard {
-        Heard::Ground => Outcome {
-            handed: Handed::Nothing,
-            next: Next::Again,
-        },
-        Heard::Other => Outcome {
-            handed: Handed::Nothing,
-            next: Next::Same,
-        },
-        Heard::Answer => settle_answer(reader, requester, head),
+    match hear(RequestNumber(now.number), message.head) {
+        Heard::Ground => Outcome::silent(Next::Again),
+        Heard::Other => Outcome::silent(Next::Same),
+        Heard::Answer => settle_answer(now, message),
     }
 }
 
 // A ground for sending the same bytes again.
-fn settle_ground(requester: &[u8]) -> Outcome
-    ensures { outcome_report result ≡ outcome_report_of (heard_outcome_of requester.now (some ground)) }
+fn settle_ground(now: Progress) -> Outcome
+    ensures { outcome_report result ≡ outcome_report_of (heard_in now (some ground)) }
 {
-    if progress::is_outstanding(requester) {
-        return Outcome {
-            handed: Handed::Nothing,
-            next: Next::Again,
-        };
+    if now.is_outstanding() {
+        return Outcome::silent(Next::Again);
     }
-    Outcome {
-        handed: Handed::Nothing,
-        next: Next::Same,
-    }
+    Outcome::silent(Next::Same)
 }
 
 // No 00 has come: a ground where the frame has passed 4,140 bytes.
-fn settle_more(reader: &[u8], requester: &[u8]) -> Outcome
-    requires { reader_valid reader.now ≡ true }
+fn settle_more(reader: &[u8], now: Progress) -> Outcome
     ensures { outcome_report result
-        ≡ outcome_report_of (heard_outcome_of requester.now (cond (is_overlong reader.now) (some ground) none)) }
+        ≡ outcome_report_of (heard_in now (cond (is_overlong reader.now) (some ground) none)) }
 {
-    let tail = line::reader::tail(reader);
-    match tail {
-        Unfinished::Refused => settle_none(),
-        Unfinished::Bytes(_) => settle_none(),
-        Unfinished::Longer => settle_ground(requester),
-    }
-}
-
-// Nothing is heard.
-fn settle_none() -> Outcome
-    ensures { outcome_report result ≡ outcome_report_of (heard_outcome nothing same) }
-{
-    Outcome {
-        handed: Handed::Nothing,
-        next: Next::Same,
+    match line::reader::tail(reader) {
+        Ok(Unfinished::Longer) => settle_ground(now),
+        Ok(Unfinished::Bytes(_)) => Outcome::silent(Next::Same),
+        Err(_) => Outcome::silent(Next::Same),
     }
 }
 
 // What comes of the line reader's answer, by the state that it left.
-pub(crate) fn settle(reader: &[u8], requester: &[u8], answer: Answer) -> Outcome
+pub(crate) fn settle(reader: &[u8], now: Progress, answer: Answer) -> Outcome
     requires reader_value { reader_valid reader.now ≡ true }
-    requires requester_value { valid_requester requester.now ≡ true }
     requires answer_value { data_fit (read_report answer) ≡ true }
+    requires number_bound { now.number < top_bit }
     ensures { outcome_report result
-        ≡ outcome_report_of
-        (heard_outcome_of requester.now
-        (heard_of (newest_number requester.now) reader.now (read_report answer))) }
+        ≡ outcome_report_of (heard_in now (heard_of now.number reader.now (read_report answer))) }
 {
     match answer {
-        Answer::Refused => settle_none(),
-        Answer::More => settle_more(reader, requester),
-        Answer::Empty => settle_none(),
-        Answer::Message(head) => settle_message(reader, requester, head),
-        Answer::BadForm => settle_ground(requester),
-        Answer::BadLength => settle_ground(requester),
-        Answer::BadChecksum(_) => settle_ground(requester),
-        Answer::BadMagic(_) => settle_ground(requester),
+        Answer::More => settle_more(reader, now),
+        Answer::Empty => Outcome::silent(Next::Same),
+        Answer::Message(head) => {
+            let data = line::reader::message_data(reader, head.length);
+            settle_message(now, Message { head, data })
+        }
+        Answer::Failed(_) => settle_ground(now),
     }
 }

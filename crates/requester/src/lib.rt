@@ -4,6 +4,7 @@
 
 mod hearing;
 pub mod layout;
+mod message;
 pub mod number;
 pub mod outcome;
 mod progress;
@@ -12,4 +13,5 @@ pub mod recovery;
 pub mod sending;
 pub mod start;
 pub mod state;
+mod step;
 pub mod valid;

@@ -1,4 +1,5 @@
-// Request and reply numbers: two types, so that one is never passed for the other.
+// Request and reply numbers: two types, so that one is never passed for the other. The supervisor has such types of its own: the two ends
+// share the line layer alone, which takes any number.
 // Assumes nothing of a request's number but that its top bit is clear, as the `requires` says.
 ghost use Rattle.std.specs.Prelude.{◌≡◌, ◌<◌};
 ghost use Rattle.line.specs.Numbers.{top_bit};
@@ -6,10 +7,10 @@ ghost use Rattle.requester.specs.Number.{main_reply_number};
 
 use line::numbers;
 
-#[derive(Clone, Copy)]
+#[derive(Clone, Copy, Debug, PartialEq, Eq)]
 pub struct RequestNumber(pub u64);
 
-#[derive(Clone, Copy)]
+#[derive(Clone, Copy, Debug, PartialEq, Eq)]
 pub struct ReplyNumber(pub u64);
 
 // The sequence of a reply to a request.

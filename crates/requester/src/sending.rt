@@ -6,66 +6,41 @@ ghost use Rattle.line.specs.Writer.{write_outcome, write_into as line_sending};
 ghost use Rattle.requester.specs.State.{request_frame};
 ghost use Rattle.requester.specs.Layout.{requester_length, newest_number, out_request};
 ghost use Rattle.requester.specs.Valid.{valid_requester};
+ghost use Rattle.requester.specs.Progress.{ProgressIn};
 ghost use Rattle.requester.specs.Calls.{request_report, send_report, put_outcome, with_request, request_promise, send_promise};
-ghost use Rattle.requester.specs.Hearing.{step_command};
 
-use crate::{layout, progress, valid};
-use line::writer::Written;
+use crate::progress::Progress;
+use crate::{layout, valid};
 use line::{limits, numbers};
+use refusals::Refusal;
 
-// What a call of `request` answers: how many bytes it put out, or why none.
-#[derive(Clone, Copy)]
-pub enum Requested {
-    Refused,
-    TooLong,
-    Outstanding,
-    NoNumber,
-    NoRoom,
-    Done(usize),
-}
-
-// What a call of `send` answers: how many bytes it put out, 0 where nothing is to go out, or why none.
-#[derive(Clone, Copy)]
-pub enum Sent {
-    Refused,
-    NoRoom,
-    Done(usize),
-}
-
-// Puts out a request's frame under the next number and keeps the request, unless it never stays outstanding.
-pub fn request(requester: &mut [u8], command: u8, data: &[u8], out: &mut [u8]) -> Requested
+// Puts out a request's frame under the next number and keeps the request, unless it never stays outstanding. How many bytes it put out.
+pub fn request(
+    requester: &mut [u8],
+    command: u8,
+    data: &[u8],
+    out: &mut [u8],
+) -> Result<usize, Refusal>
     ensures { put_outcome (request_report result) out.new requester.new
         ≡ request_promise requester.old command «data».now out.old }
 {
     if !valid::requester_is_valid(requester) {
-        return Requested::Refused;
+        return Err(Refusal::BadState);
     }
     if limits::LONGEST_DATA < data.len() {
-        return Requested::TooLong;
+        return Err(Refusal::TooLong);
     }
-    if progress::is_outstanding(requester) {
-        return Requested::Outstanding;
+    let now = Progress::read(requester);
+    if now.is_outstanding() {
+        return Err(Refusal::Outstanding);
     }
-    let number = octets::read_u64(requester, layout::NUMBER_OFFSET);
-    if layout::LAST_NUMBER <= number {
-        return Requested::NoNumber;
+    if layout::LAST_NUMBER <= now.number {
+        return Err(Refusal::NoNumber);
     }
-    let written = line::writer::write(
-        numbers::FIRST_VERSION,
-        number + 1,
-        command,
-        data,
-        &data[0..0],
-        out,
-    );
-    match written {
-        Written::Done(n) => {
-            keep(requester, number + 1, command, data);
-            Requested::Done(n)
-        }
-        Written::NoRoom => Requested::NoRoom,
-        Written::TooLong => Requested::TooLong,
-    }
+    let number = now.number + 1;
+    let n = line::writer::write(numbers::FIRST_VERSION, number, command, data, &[], out)?;
+    keep(requester, number, command, data);
+    Ok(n)
 }
 
 // The request of the newest number, kept unless it never stays outstanding.
@@ -74,78 +49,61 @@ fn keep(requester: &mut [u8], number: u64, command: u8, data: &[u8])
     requires data_len_bound { length «data».now ≤ longest_data }
     ensures { requester.new ≡ with_request number command «data».now requester.old }
 {
-    if !valid::stays_out(command) {
-        progress::set_progress(requester, number, layout::NO_STEP, 0, 0);
+    let kept = valid::stays_out(command);
+    let progress = Progress {
+        kept,
+        ..Progress::idle(number)
+    };
+    progress.write(requester);
+    if !kept {
         return;
     }
-    progress::set_progress(requester, number, layout::NO_STEP, 0, 1);
     requester[layout::COMMAND_OFFSET] = command;
     octets::write_u16(requester, layout::LENGTH_OFFSET, data.len() as u16);
-    octets::copy(data, 0, data.len(), requester, layout::DATA_OFFSET);
+    requester[layout::DATA_OFFSET..layout::DATA_OFFSET + data.len()].copy_from_slice(data);
 }
 
-// Puts out the frame of the one outstanding, where it is to go out.
-pub fn send(requester: &mut [u8], out: &mut [u8]) -> Sent
+// Puts out the frame of the one outstanding, where it is to go out. How many bytes it put out, 0 where nothing is to.
+pub fn send(requester: &mut [u8], out: &mut [u8]) -> Result<usize, Refusal>
     ensures { put_outcome (send_report result) out.new requester.new
         ≡ send_promise requester.old out.old }
 {
     if !valid::requester_is_valid(requester) {
-        return Sent::Refused;
+        return Err(Refusal::BadState);
     }
-    if !progress::is_unsent(requester) {
-        return Sent::Done(0);
+    let now = Progress::read(requester);
+    if !now.is_unsent() {
+        return Ok(0);
     }
-    let written = write_outstanding(requester, out);
-    match written {
-        Written::Done(n) => {
-            requester[layout::UNSENT_OFFSET] = 0;
-            Sent::Done(n)
-        }
-        Written::NoRoom => Sent::NoRoom,
-        Written::TooLong => Sent::NoRoom,
-    }
+    let n = write_outstanding(requester, now, out)?;
+    requester[layout::UNSENT_OFFSET] = 0;
+    Ok(n)
 }
 
 // The frame of the one outstanding: a step of a recovery, or the request kept.
-fn write_outstanding(requester: &[u8], out: &mut [u8]) -> Written
-    requires { valid_requester requester.now ≡ true }
+fn write_outstanding(requester: &[u8], now: Progress, out: &mut [u8]) -> Result<usize, Refusal>
+    requires requester_value { valid_requester requester.now ≡ true }
+    requires now_value { ProgressIn requester.now now }
     ensures { write_outcome result out.new
         ≡ line_sending (request_frame (newest_number requester.now) (out_request requester.now)) out.old }
 {
-    let number = octets::read_u64(requester, layout::NUMBER_OFFSET);
-    let step = octets::read_u8(requester, layout::RECOVERY_OFFSET);
-    let n = octets::word_at(requester, layout::LENGTH_OFFSET);
-    if step == layout::NO_STEP {
-        let command = octets::read_u8(requester, layout::COMMAND_OFFSET);
-        let end = layout::DATA_OFFSET + n;
-        return line::writer::write(
-            numbers::FIRST_VERSION,
-            number,
-            command,
-            &requester[layout::DATA_OFFSET..end],
-            &requester[0..0],
-            out,
-        );
+    match now.recovery {
+        None => {
+            let command = octets::read_u8(requester, layout::COMMAND_OFFSET);
+            let n = usize::from(octets::read_u16(requester, layout::LENGTH_OFFSET));
+            let end = layout::DATA_OFFSET + n;
+            let data = &requester[layout::DATA_OFFSET..end];
+            line::writer::write(numbers::FIRST_VERSION, now.number, command, data, &[], out)
+        }
+        Some(step) => {
+            line::writer::write(
+                numbers::FIRST_VERSION,
+                now.number,
+                step.command(),
+                &[],
+                &[],
+                out,
+            )
+        }
     }
-    line::writer::write(
-        numbers::FIRST_VERSION,
-        number,
-        step_command(step),
-        &requester[0..0],
-        &requester[0..0],
-        out,
-    )
-}
-
-// The command of a recovery's step.
-pub(crate) fn step_command(step: u8) -> u8
-    ensures { result ≡ step_command step }
-{
-    if step == layout::FETCH {
-        return numbers::COMMAND_STATUS;
-    }
-    if step == layout::ACKNOWLEDGE {
-        return numbers::COMMAND_START_ACKNOWLEDGED;
-    }
-    numbers::COMMAND_ALERT
 }

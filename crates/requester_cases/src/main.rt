@@ -2,27 +2,19 @@
 // Assumes nothing: what is out of range is passed over. A read or a write that fails ends the program with its error.
 #![tactic(auto)]
 
+mod parts;
 mod print;
 mod run;
 
+use run::Case;
 use std::io;
-use std::io::Read;
-use text_lines::streams;
+use text_lines::streams::Lines;
 
+// Every line of the input, up to its end.
 fn main(rt: HostRuntime) -> io::Result<()> {
-    let mut line = [0u8; streams::LINE_ROOM];
-    run_all(&rt, &mut rt.stdin(), &mut line)
-}
-
-// Every line of the input.
-fn run_all<R: Read>(rt: &impl Print, input: &mut R, line: &mut [u8]) -> io::Result<()> {
-    let mut now = run::fresh();
-    for _ in 0..streams::MOST_LINES {
-        let n = streams::read_line(input, line)?;
-        if n == 0 {
-            return Ok(());
-        }
-        now = run::command(rt, octets::part(line, 0, n), now)?;
+    let mut case = Case::fresh();
+    for line in Lines::new(&mut rt.stdin()) {
+        case.command(&rt, line?.text())?;
     }
     Ok(())
 }

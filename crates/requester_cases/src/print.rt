@@ -1,112 +1,71 @@
 // Prints the answers of the main processor's end, each with one space in front; refusals go by the numbers of documents 01 and 02.
 // Assumes nothing: a write that fails ends the call with its error.
 use line::reader::Head;
+use refusals::Refusal;
 use requester::outcome::{Handed, Status};
 use requester::receive::Received;
-use requester::recovery::Interrupted;
-use requester::sending::{Requested, Sent};
-use requester::start::Started;
-use requester::state::{Stage, Standing, Stated};
+use requester::state::{Stage, Standing};
 use std::io;
 use text_lines::streams;
 
-const NO_ROOM: u64 = 8;
-
-const TOO_LONG: u64 = 9;
-
-const REFUSED: u64 = 12;
-
-const NO_NUMBER: u64 = 14;
-
-const OUTSTANDING: u64 = 17;
-
-fn done(rt: &impl Print) -> io::Result<()> {
-    streams::word(rt, b" done")
+// A refusal by its number.
+fn no(rt: &impl Print, why: Refusal) -> io::Result<()> {
+    streams::refused(rt, u64::from(why.number()))
 }
 
-fn put(rt: &impl Print, n: usize) -> io::Result<()> {
-    streams::word(rt, b" put")?;
-    streams::number(rt, n as u64)
-}
-
-pub(crate) fn starting(rt: &impl Print, a: Started) -> io::Result<()> {
+// What start and interrupt answered.
+pub(crate) fn done(rt: &impl Print, a: Result<(), Refusal>) -> io::Result<()> {
     match a {
-        Started::Done => done(rt),
-        Started::Refused => streams::refused(rt, REFUSED),
+        Ok(()) => streams::word(rt, b" done"),
+        Err(why) => no(rt, why),
     }
 }
 
-pub(crate) fn requesting(rt: &impl Print, a: Requested) -> io::Result<()> {
+// What request and send answered.
+pub(crate) fn put(rt: &impl Print, a: Result<usize, Refusal>) -> io::Result<()> {
     match a {
-        Requested::Refused => streams::refused(rt, REFUSED),
-        Requested::TooLong => streams::refused(rt, TOO_LONG),
-        Requested::Outstanding => streams::refused(rt, OUTSTANDING),
-        Requested::NoNumber => streams::refused(rt, NO_NUMBER),
-        Requested::NoRoom => streams::refused(rt, NO_ROOM),
-        Requested::Done(n) => put(rt, n),
+        Ok(n) => {
+            streams::word(rt, b" put")?;
+            streams::number(rt, n as u64)
+        }
+        Err(why) => no(rt, why),
     }
 }
 
-pub(crate) fn sending(rt: &impl Print, a: Sent) -> io::Result<()> {
-    match a {
-        Sent::Refused => streams::refused(rt, REFUSED),
-        Sent::NoRoom => streams::refused(rt, NO_ROOM),
-        Sent::Done(n) => put(rt, n),
-    }
-}
-
-pub(crate) fn interrupting(rt: &impl Print, a: Interrupted) -> io::Result<()> {
-    match a {
-        Interrupted::Done => done(rt),
-        Interrupted::Refused => streams::refused(rt, REFUSED),
-        Interrupted::NoNumber => streams::refused(rt, NO_NUMBER),
-    }
+// A call of receive that is refused, and so used nothing.
+pub(crate) fn not_receiving(rt: &impl Print, why: Refusal) -> io::Result<()> {
+    streams::number(rt, 0)?;
+    no(rt, why)
 }
 
 // Whether a call of receive has nothing to report.
 pub(crate) fn is_quiet(r: Received) -> bool {
-    if r.ended {
-        return false;
-    }
-    let handed = r.handed;
-    is_nothing(handed)
-}
-
-fn is_nothing(handed: Handed) -> bool {
-    match handed {
-        Handed::Refused => false,
-        Handed::Nothing => true,
-        Handed::Answer(_) => false,
-        Handed::Status(_) => false,
-        Handed::Alert(_) => false,
-    }
+    !r.ended && r.handed.is_none()
 }
 
 // What a call of receive answered.
 pub(crate) fn receiving(rt: &impl Print, r: Received, reader: &[u8]) -> io::Result<()> {
-    let handed = r.handed;
     streams::number(rt, r.used as u64)?;
-    handing(rt, handed, reader)?;
+    handing(rt, r.handed, reader)?;
     word_if(rt, r.ended, b" ended")?;
     word_if(rt, r.unsent, b" out")
 }
 
-fn handing(rt: &impl Print, handed: Handed, reader: &[u8]) -> io::Result<()> {
+fn handing(rt: &impl Print, handed: Option<Handed>, reader: &[u8]) -> io::Result<()> {
     match handed {
-        Handed::Refused => streams::refused(rt, REFUSED),
-        Handed::Nothing => streams::word(rt, b" nothing"),
-        Handed::Answer(h) => message(rt, b" answer", h, reader),
-        Handed::Status(s) => status(rt, s),
-        Handed::Alert(h) => message(rt, b" alert", h, reader),
+        None => streams::word(rt, b" nothing"),
+        Some(Handed::Answer(h)) => message(rt, b" answer", h, reader),
+        Some(Handed::Status(s)) => status(rt, s),
+        Some(Handed::Alert(h)) => message(rt, b" alert", h, reader),
     }
 }
 
 // A message's version, sequence, command, length and the digest of its data.
 fn message(rt: &impl Print, kind: &[u8], h: Head, reader: &[u8]) -> io::Result<()> {
     streams::word(rt, kind)?;
-    streams::number(rt, h.version as u64)?;
+    streams::number(rt, u64::from(h.version))?;
     streams::hex(rt, h.sequence, 16)?;
-    streams::hex(rt, h.command as u64, 2)?;
+    streams::hex(rt, u64::from(h.command), 2)?;
     streams::number(rt, h.length as u64)?;
     streams::digest(rt, line::reader::message_data(reader, h.length))
 }
@@ -115,33 +74,32 @@ fn status(rt: &impl Print, s: Status) -> io::Result<()> {
     streams::word(rt, b" status")?;
     streams::hex(rt, s.status, 16)?;
     streams::hex(rt, s.options, 16)?;
-    streams::number(rt, s.set_bits as u64)
+    streams::number(rt, u64::from(s.set_bits))
 }
 
-pub(crate) fn stating(rt: &impl Print, a: Stated) -> io::Result<()> {
+pub(crate) fn stating(rt: &impl Print, a: Result<Standing, Refusal>) -> io::Result<()> {
     match a {
-        Stated::Refused => streams::refused(rt, REFUSED),
-        Stated::Done(s) => standing(rt, s),
+        Ok(s) => standing(rt, s),
+        Err(why) => no(rt, why),
     }
 }
 
 // What is outstanding: its stage, command and number, and two flags.
 fn standing(rt: &impl Print, s: Standing) -> io::Result<()> {
-    let kind = s.stage;
-    stage(rt, kind)?;
-    streams::hex(rt, s.command as u64, 2)?;
+    streams::word(rt, stage(s.stage))?;
+    streams::hex(rt, u64::from(s.command), 2)?;
     streams::hex(rt, s.number, 16)?;
     word_if(rt, s.unsent, b" out")?;
     word_if(rt, s.original, b" original")
 }
 
-fn stage(rt: &impl Print, kind: Stage) -> io::Result<()> {
+fn stage(kind: Stage) -> &'static [u8] {
     match kind {
-        Stage::Idle => streams::word(rt, b" idle"),
-        Stage::Waiting => streams::word(rt, b" waiting"),
-        Stage::Fetch => streams::word(rt, b" fetch"),
-        Stage::Acknowledge => streams::word(rt, b" acknowledge"),
-        Stage::Alert => streams::word(rt, b" alert"),
+        Stage::Idle => b" idle",
+        Stage::Waiting => b" waiting",
+        Stage::Fetch => b" fetch",
+        Stage::Acknowledge => b" acknowledge",
+        Stage::Alert => b" alert",
     }
 }
 

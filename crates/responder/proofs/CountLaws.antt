@@ -1,5 +1,6 @@
 -- Laws of the frames of a piece that are counted: what is left of a piece is counted on.
 -- Assumes nothing.
+use Rattle.std.specs.Prelude.{Result, Ok, Err, ⊤}
 use mathlib.Core.Path.{◌≡◌, refl, sym, ap, ◌∙◌}
 use mathlib.Core.Bool.{true, false}
 use mathlib.Core.List.{List, [], ◌∷◌}
@@ -16,8 +17,8 @@ use Rattle.counters.specs.declared.Counters.{Counters}
 use Rattle.counters.specs.Count.{bumped_for, bumped_for_all}
 use Rattle.responder.specs.Receive
 use Rattle.responder.specs.Counting.{endings, count_promise}
-use Rattle.responder.specs.declared.receive.Received.{Received}
-use Rattle.responder.specs.declared.receive.Received.TheVariants as received
+use Rattle.refusals.specs.declared.Refusal.{Refusal}
+use Rattle.refusals.specs.declared.Refusal.TheVariants.{BadState}
 use Rattle.responder.proofs.VerdictLaws.{finished-ended, closed-received}
 use Rattle.responder.proofs.StepLaws.{parts-valid, read_next, Held, begun, over, by_left}
 
@@ -40,11 +41,11 @@ pub record Counted (image piece : List ℕ) (p₀ p : Parts) (c t : Counters) (a
   pub held : Held image piece p₀ p at
   pub same : count_promise c p₀ piece ≡ bumped_for_all t (endings (received_of p.reader) (drop at piece))
 
-abbrev Done : List ℕ → List ℕ → Parts → Counters → Received → Counters → Parts → Type 0
+abbrev Done : List ℕ → List ℕ → Parts → Counters → Result ⊤ Refusal → Counters → Parts → Type 0
 Done image piece p c a t q = (Receive.receive_outcome a q ≡ Receive.receive_promise image p piece) × (t ≡ count_promise c p piece)
 
 pub refused-so : (image piece : List ℕ) (p : Parts) (c : Counters) → Receive.valid_parts p ≡ false
-    → Done image piece p c received.Refused c p
+    → Done image piece p c (Err BadState) c p
 unfolding Receive.receive_promise Receive.receive_report count_promise
 refused-so image piece p c v = rw v (refl, refl)
 
@@ -53,7 +54,7 @@ unfolding count_promise
 counted_none image piece p c v = record { held = begun image piece p v; same = rw v }
 
 pub counted-all : {image piece : List ℕ} {p₀ p : Parts} {c t : Counters} {at : ℕ} → Counted image piece p₀ p c t at
-    → length piece ≤ at → Done image piece p₀ c received.Done t p
+    → length piece ≤ at → Done image piece p₀ c (Ok tt) t p
 unfolding endings bumped_for_all
 counted-all {piece = piece} h l = (over h.held l, sym (h.same ∙ rw (drop_of_length-le piece l)))
 

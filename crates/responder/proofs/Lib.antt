@@ -8,4 +8,5 @@ pub mod ReceiveLaws
 pub mod KeptLaws
 pub mod VerdictLaws
 pub mod StepLaws
+pub mod StoreLaws
 pub mod CountLaws

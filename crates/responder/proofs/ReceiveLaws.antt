@@ -17,24 +17,23 @@ use Rattle.octets.proofs.Overlay.{length_run}
 use Rattle.supervisor.specs.Limits
 use Rattle.supervisor.specs.Layout
 use Rattle.supervisor.specs.Valid.{good_item, valid_factory}
-use Rattle.responder.specs.Commands.{command_number, length_right, with_number, command_of_number}
-use Rattle.responder.specs.Requests.{length_allowed}
+use Rattle.responder.specs.Commands.{Command, length_right}
 use Rattle.responder.specs.Receive.{carries_edition, value_head, item_data_length, item_bytes, block_bytes}
 use Rattle.supervisor.proofs.ValidLaws.{alike, all-each, item-good, factory-valid}
 
 -- ---- the data of a valid request are long enough for its command
 
-pub boot-failure-long : (command n : ℕ) → length_allowed command n ≡ true → command ≡ 0x06 → 1 ≤ n
-unfolding length_allowed command_of_number with_number command_number length_right
-boot-failure-long command n e h = leb-true 1 n (rw h at e)
+pub boot-failure-long : (n : ℕ) → length_right Command.boot-failure n ≡ true → 1 ≤ n
+unfolding length_right
+boot-failure-long n h = leb-true 1 n h
 
-pub panic-long : (command n : ℕ) → length_allowed command n ≡ true → command ≡ 0x07 → 2 ≤ n
-unfolding length_allowed command_of_number with_number command_number length_right
-panic-long command n e h = leb-true 2 n (rw h at e)
+pub panic-long : (n : ℕ) → length_right Command.panic n ≡ true → 2 ≤ n
+unfolding length_right
+panic-long n h = leb-true 2 n h
 
-pub key-set-long : (command n : ℕ) → length_allowed command n ≡ true → command ≡ 0x10 → 1 ≤ n
-unfolding length_allowed command_of_number with_number command_number length_right
-key-set-long command n e h = leb-true 1 n (rw h at e)
+pub key-set-long : (n : ℕ) → length_right Command.key_set n ≡ true → 1 ≤ n
+unfolding length_right
+key-set-long n h = leb-true 1 n h
 
 -- ---- a lookup
 
@@ -48,11 +47,10 @@ edition-all edition = refl
 
 -- what stands ahead of the value
 pub value-head : (version result edition : ℕ) {n : ℕ} {h : List ℕ} → result < 256 → n ≡ cond (carries_edition version result) 5 1
-    → h ≡ put 1 (bytes 4 edition) (result ∷ 0 ∷ 0 ∷ 0 ∷ 0 ∷ []) → take (n - 0) h ≡ value_head version result edition
+    → h ≡ put 1 (bytes 4 edition) (result ∷ 0 ∷ 0 ∷ 0 ∷ 0 ∷ []) → take n h ≡ value_head version result edition
 unfolding value_head
-value-head version result edition {n} small e f =
-    let k : n - 0 ≡ n = omega arith in
-    rw (k, f, e, one_byte result small, edition-put result edition)
+value-head version result edition small e f =
+    rw (f, e, one_byte result small, edition-put result edition)
     (cond_both (λ n bs. take n (result ∷ bytes 4 edition) ≡ result ∷ bs) (carries_edition version result) (λ _. edition-all edition)
     (λ _. refl))
 
@@ -76,6 +74,11 @@ item-held f index e h =
           cond-by (λ n. n ≤ Limits.longest_item_data) (eqb (number_at 1 f (Layout.item_offset index)) 0) _ 0 (λ _. g.size)
           (λ _. omega arith);
     }
+
+-- by the count that was read
+pub item_held-by : (f : List ℕ) (index : ℕ) {count : ℕ} → valid_factory f ≡ true → count ≡ Layout.item_count f → index < count
+    → ItemHeld f index
+item_held-by f index e n h = item-held f index e (rw n at h)
 
 pub item-there : (f : List ℕ) (index n : ℕ) → index < Layout.item_count f → n ≡ item_data_length f (Layout.item_offset index)
     → let at = Layout.item_offset index in

@@ -1,15 +1,15 @@
 -- Laws of stores right behind one another: a record of the registers, and a value of the settings store.
 -- Assumes nothing.
 use mathlib.Core.Path.{◌≡◌, refl, sym, ap, ◌∙◌}
-use mathlib.Core.Bool.{Bool, true, false, cond, ◌||◌, or-true, false≢true}
-use mathlib.Core.List.{List, [], ◌∷◌, ◌++◌, append_assoc, append-nil}
+use mathlib.Core.Bool.{Bool, true, false, ◌||◌, or-true, false≢true}
+use mathlib.Core.List.{List, [], ◌∷◌, ◌++◌, append_assoc}
 use Prim.Native.Nat.{ℕ, zero, suc, ◌+◌, ◌-◌, min, ◌≤◌, ◌<◌}
-use native.Mathlib.Nat.{add-zero, min-zero, suc-min-suc}
+use native.Mathlib.Nat.{min-zero, suc-min-suc}
 use native.Mathlib.Numerals.{add-one}
 use native.Mathlib.Omega.{arith}
-use lib.Dec.{leb, ltb}
+use lib.Dec.{ltb}
 use borrow.Author.Tests.{ltb-false, lt-ltb, le-ltb, eq-eqb, ne_eqb}
-use lib.ListN.{length, take, drop, set, replicate, length-append, length-drop, take-append-drop}
+use lib.ListN.{length, take, drop, set, replicate, length-append, length-drop}
 use lib.Seq.{take-nil, take-length}
 use Rattle.octets.specs.Bytes.{bytes, overlay, put, copied}
 use Rattle.octets.proofs.Numbers.{length-bytes, one_byte}
@@ -70,15 +70,6 @@ record-put r d at code from {whole} {kept} low long l w k f g h =
     (simp append_assoc)
 
 -- ---- the data behind a key
-
--- no byte cleared
-pub cleared-none : (at : ℕ) (s : List ℕ) (n : ℕ) → n ≡ 0 → s ≡ put at (zeros n) s
-unfolding put overlay
-cleared-none at s n e = rw e (by (leb (at + 0) (length s)))
-  where
-    by : (b : Bool) → s ≡ cond b (take at s ++ [] ++ drop (at + 0) s) s
-    by true = simp (add-zero, append-nil, take-append-drop)
-    by false = refl
 
 -- a length that is right, and what its tests say
 pub right-length : (shortest longest n : ℕ) → shortest ≤ n → n ≤ longest → (ltb n shortest || ltb longest n) ≡ false

@@ -1,6 +1,7 @@
 -- Laws of sending: a reply's frame behind the place for a 00, and the bytes that become the pending ones.
 -- Assumes nothing.
-use mathlib.Core.Path.{◌≡◌, ap, ◌∙◌}
+use Rattle.std.specs.Prelude.{Result, Ok, Err, IsOk}
+use mathlib.Core.Path.{◌≡◌, refl, ap, ◌∙◌}
 use mathlib.Core.Bool.{cond}
 use mathlib.Core.List.{List, [], ◌∷◌, ◌++◌}
 use Prim.Native.Nat.{ℕ, suc, ◌+◌, ◌-◌, ◌≤◌}
@@ -17,9 +18,8 @@ use Rattle.octets.proofs.Overlay.{length-overlay, overlay-before, overlay-one, o
 use Rattle.line.specs.Limits.{longest_data, longest_form}
 use Rattle.line.specs.Message.{Message}
 use Rattle.line.specs.Frame.{frame}
-use Rattle.line.specs.Writer.{wrote, refused, WriteOutcome, write_report, write_outcome, message_of_parts, write_into, write_promise}
-use Rattle.line.specs.declared.writer.Written.{Written}
-use Rattle.line.specs.declared.writer.Written.TheVariants.{Done}
+use Rattle.line.specs.Writer.{wrote, WriteOutcome, write_report, write_outcome, message_of_parts, write_into, write_promise}
+use Rattle.refusals.specs.declared.Refusal.{Refusal}
 use Rattle.line.proofs.FrameLength.{frame_fits}
 use Rattle.line.proofs.Rest.{rest-mid, rest-overlay}
 use Rattle.supervisor.specs.Layout.{outbox_length, outbox_from_offset, outbox_to_offset, outbox_terminator_owed_offset, outbox_bytes_offset}
@@ -42,7 +42,7 @@ frame-written m o long short =
 -- what a call of the writer on the rest of the outbox answers and leaves
 module _ (h : Head) (command : ℕ) (head rest o : List ℕ) (long : outbox_length ≤ length o)
     (short : length head + length rest ≤ longest_data)
-    (r : Written) {t : List ℕ}
+    (r : Result ℕ Refusal) {t : List ℕ}
     (done : write_outcome r t
     ≡ write_promise (message_of_parts h.version h.number.0 command head rest) (mid_of reply_offset (length o - reply_offset) o)) where
   abbrev reply : List ℕ
@@ -57,9 +57,8 @@ module _ (h : Head) (command : ℕ) (head rest o : List ℕ) (long : outbox_leng
   answered : write_report r ≡ wrote (length reply)
   answered = ap (λ (w : WriteOutcome). w.answer) written
 
-  pub reply-written : {n : ℕ} → r ≡ Done n
+  pub reply-written : {n : ℕ} → r ≡ Ok n
       → (n ≡ length reply) × ((n ≤ longest_form + 1) × (put_mid reply_offset (length o - reply_offset) o t ≡ overlay reply_offset reply o))
-  unfolding write_report
   reply-written {n} e =
       let k : n ≡ length reply = cc answered in (
         k,
@@ -69,8 +68,12 @@ module _ (h : Head) (command : ℕ) (head rest o : List ℕ) (long : outbox_leng
         ),
       )
 
-  pub reply-refused : {v : Written} → r ≡ v → (k : ℕ) → write_report v ≡ refused k → ⊥
-  reply-refused e k f = let z : ◌≡◌ {A = ℕ} 0 1 = cc answered in omega arith
+  pub reply_ok : IsOk r
+  reply_ok = by r answered
+    where
+      by : (w : Result ℕ Refusal) → write_report w ≡ wrote (length reply) → IsOk w
+      by (Ok n) e = refl
+      by (Err why) e = let z : ◌≡◌ {A = ℕ} 0 1 = cc in absurd (omega arith)
 
 -- ---- the pending bytes
 

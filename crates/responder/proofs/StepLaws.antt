@@ -1,6 +1,7 @@
 -- Laws of an iteration: the reader's state stays valid, what a frame comes to by its verdict, and what is left of a piece.
 -- Assumes nothing.
-use mathlib.Core.Path.{◌≡◌, refl, ap, ◌∙◌}
+use Rattle.std.specs.Prelude.{Result, Ok, Err, IsOk}
+use mathlib.Core.Path.{◌≡◌, refl, sym, ap, subst, ◌∙◌}
 use mathlib.Core.Bool.{Bool, true, false, and-eq-true_iff}
 use mathlib.Core.List.{List, [], ◌∷◌}
 use mathlib.Core.Option.{Option, none, some}
@@ -15,8 +16,8 @@ use Rattle.octets.proofs.Numbers.{length-bytes}
 use Rattle.line.specs.Limits.{longest_data}
 use Rattle.line.specs.Numbers.{first_version, second_version}
 use Rattle.line.specs.Reader as LineReader
-use Rattle.line.specs.declared.reader.Collected.{Collected}
-use Rattle.line.specs.declared.reader.Collected.TheVariants as collected
+use Rattle.line.specs.declared.reader.Reading.{Reading}
+use Rattle.refusals.specs.declared.Refusal.{Refusal}
 use Rattle.line.proofs.Received.{read_stays}
 use Rattle.supervisor.specs.Valid.{valid_factory}
 use Rattle.supervisor.specs.Calls.{Parts, parts}
@@ -24,12 +25,11 @@ use Rattle.counters.specs.declared.outcome.Outcome.{Outcome}
 use Rattle.counters.specs.declared.outcome.Outcome.TheVariants as outcome
 use Rattle.counters.specs.Ended.{Ended, Served, step_report, served_report}
 use Rattle.responder.specs.Requests.{Verdict, failure, good, version_served, known, length_allowed, tested}
-use Rattle.responder.specs.Commands.{Command, command_number, command_of_number}
+use Rattle.responder.specs.Commands.{Command, command_number, command_of_number, length_right}
 use Rattle.responder.specs.Receive
-use Rattle.responder.specs.declared.receive.Received.TheVariants as received
-use Rattle.responder.proofs.CommandLaws.{of_number}
+use Rattle.responder.proofs.CommandLaws.{number_is}
 use Rattle.responder.proofs.KeptLaws.{answering-valid, carried-valid}
-use Rattle.responder.proofs.VerdictLaws.{behind-stays}
+use Rattle.responder.proofs.VerdictLaws.{Ends, finish-ends, behind-stays}
 
 -- ---- valid parts
 
@@ -78,6 +78,34 @@ pub accepted : (s piece : List ℕ) → LineReader.valid_reader s ≡ true → L
 unfolding LineReader.read_promise
 accepted s piece v = rw v
 
+-- a piece that is read is never answered as refused
+abbrev Told : LineReader.ReadReport → Type 0
+Told (LineReader.refused n) = ⊥
+Told LineReader.more = Unit {0}
+Told LineReader.empty = Unit {0}
+Told (LineReader.message version sequence command n) = Unit {0}
+Told (LineReader.failed reason sequence) = Unit {0}
+
+ends-told : (a : LineReader.ReadReport) → Ends a → Told a
+ends-told (LineReader.refused n) h = h
+ends-told LineReader.more h = tt
+ends-told LineReader.empty h = tt
+ends-told (LineReader.message version sequence command n) h = tt
+ends-told (LineReader.failed reason sequence) h = tt
+
+read-told : (piece s : List ℕ) → Told (LineReader.read_piece s piece).answer
+unfolding LineReader.read_piece LineReader.one_byte_later
+read-told [] s = tt
+read-told (zero ∷ bs) s = ends-told _ (finish-ends s)
+read-told (suc b ∷ bs) s = rw (read_next s b bs) (read-told bs (LineReader.pushed s (suc b)))
+
+pub read_ok : (piece s t : List ℕ) (r : Result Reading Refusal) → LineReader.valid_reader s ≡ true
+    → LineReader.read_outcome r t ≡ LineReader.read_promise s piece → IsOk r
+read_ok piece s t (Ok reading) v e = refl
+read_ok piece s t (Err why) v e =
+    let q = e ∙ accepted s piece v in
+    absurd (subst Told (sym (ap (λ (o : LineReader.ReadOutcome). o.answer) q)) (read-told piece s))
+
 -- ---- a request
 
 -- what the table makes of a message, test by test
@@ -95,18 +123,18 @@ module _ (version sequence command : ℕ) (d : List ℕ) where
     top-bit-set h = rw (a, le-leb (2 ^ 63) sequence h)
 
     module _ (b : sequence < 2 ^ 63) where
-      pub command-unknown : known command ≡ false → Tested (failure 3 first_version none)
-      unfolding tested
-      command-unknown h = rw (a, lt-leb (2 ^ 63) sequence b, h)
+      pub command-unknown : none ≡ command_of_number command → Tested (failure 3 first_version none)
+      unfolding tested known
+      command-unknown h = rw (a, lt-leb (2 ^ 63) sequence b, ← h)
 
-      module _ (c : known command ≡ true) where
-        pub length-wrong : length_allowed command (length d) ≡ false → Tested (failure 7 version (some sequence))
-        unfolding tested
-        length-wrong h = rw (a, lt-leb (2 ^ 63) sequence b, c, h)
+      module _ {x : Command} (c : some x ≡ command_of_number command) where
+        pub length-wrong : length_right x (length d) ≡ false → Tested (failure 7 version (some sequence))
+        unfolding tested known length_allowed
+        length-wrong h = rw (a, lt-leb (2 ^ 63) sequence b, ← c, h)
 
-        pub passed-all : length_allowed command (length d) ≡ true → Tested (good (Receive.message_with version sequence command d))
-        unfolding tested
-        passed-all h = rw (a, lt-leb (2 ^ 63) sequence b, c, h)
+        pub passed-all : length_right x (length d) ≡ true → Tested (good (Receive.message_with version sequence command d))
+        unfolding tested known length_allowed
+        passed-all h = rw (a, lt-leb (2 ^ 63) sequence b, ← c, h)
 
 -- a version that is served is 1 or 2
 pub served-small : (version : ℕ) → version_served version ≡ true → version ≤ 2
@@ -203,7 +231,8 @@ module _ (image f o s t : List ℕ) (version sequence command : ℕ) (d : List �
       Judged image f (Receive.inner o s t) (good (Receive.message_with version sequence command d)) (step_report r) (served_report r)
 
   -- a key set, by a call of `set_key`
-  pub judged-set : {key result : ℕ} {h : Receive.Head} {o' s' : List ℕ} → command ≡ 0x10 → version_served version ≡ true
+  pub judged-set : {key result : ℕ} {h : Receive.Head} {o' s' : List ℕ} → command_of_number command ≡ some Command.key_set
+      → version_served version ≡ true
       → valid_factory f ≡ true → Receive.valid_inner (Receive.inner o s t) ≡ true → length d ≤ longest_data
       → (key ≡ number_at 1 d 0) × (key < 256) → h ≡ Receive.reply_head version sequence
       → Receive.key_set_parts result o' s' ≡ Receive.key_set_answered o s h d
@@ -212,17 +241,17 @@ module _ (image f o s t : List ℕ) (version sequence command : ℕ) (d : List �
       command_number
   judged-set {key} {result} c a g w l b n e =
       let k = ap (λ (x : Receive.KeySet). Receive.inner x.outbox x.settings t) (rw n at e) in
-      let m : command_of_number command ≡ some Command.key_set = rw c (of_number Command.key_set) in
-      let q = carried-both image f (Receive.inner o s t) version sequence command d a g w l b (some Command.key_set) m k in
+      let m : command ≡ 0x10 = number_is command c in
+      let q = carried-both image f (Receive.inner o s t) version sequence command d a g w l b (some Command.key_set) c k in
       let z : result ≡ (Receive.store_bytes s (number_at 1 d 0) (drop 1 d)).result = ap (λ (x : Receive.KeySet). x.result) e in
       record {
         result_value = refl;
-        result_value_2 = rw (c, b.0, z);
+        result_value_2 = rw (m, b.0, z);
         registers_after = q.registers_after;
         registers_after_2 = q.registers_after_2;
       }
 
-  -- any other, by a call of `carry`
+  -- any other
   pub judged-other : {j : Receive.Inner} → eqb command 0x10 ≡ false → CarriedBy image f (Receive.inner o s t) version sequence command d j
       → Carried (outcome.Request command) j
   unfolding step_report served_report Receive.served_by_verdict Receive.inner_by
@@ -338,19 +367,18 @@ unfolding Receive.receive_promise
 begun image piece p v = record { within = zero-le; valid = v; same = rw v }
 
 pub over : {image piece : List ℕ} {p₀ p : Parts} {at : ℕ} → Held image piece p₀ p at → length piece ≤ at
-    → Receive.receive_outcome received.Done p ≡ Receive.receive_promise image p₀ piece
+    → Receive.receive_outcome (Ok tt) p ≡ Receive.receive_promise image p₀ piece
 unfolding Receive.receive_report Receive.feed_bytes
 over {piece = piece} h l = rw (h.same, drop_of_length-le piece l)
 
 -- a single byte that ends no frame
-kept-state : (c : Collected) (s : List ℕ) → (LineReader.collect_outcome c s).state ≡ s
-unfolding LineReader.collect_outcome
-kept-state collected.Refused s = refl
-kept-state (collected.Bytes n) s = refl
+kept-state : (c : Result ℕ Refusal) (s : List ℕ) → (LineReader.collect_outcome c s).state ≡ s
+kept-state (Err why) s = refl
+kept-state (Ok n) s = refl
 
-pub kept : (image piece : List ℕ) (p : Parts) (c : Collected) (reader : List ℕ) → Receive.valid_parts p ≡ true
+pub kept : (image piece : List ℕ) (p : Parts) (c : Result ℕ Refusal) (reader : List ℕ) → Receive.valid_parts p ≡ true
     → length piece ≡ 1 → 0 < get_or piece 0 0 → LineReader.collect_outcome c reader ≡ LineReader.collect_promise p.reader piece
-    → Receive.receive_outcome received.Done (Receive.parts_with p reader (Receive.inner_of p)) ≡ Receive.receive_promise image p piece
+    → Receive.receive_outcome (Ok tt) (Receive.parts_with p reader (Receive.inner_of p)) ≡ Receive.receive_promise image p piece
 unfolding Receive.receive_promise Receive.receive_report Receive.feed_bytes Receive.feed_byte LineReader.collect_promise
     LineReader.ahead_of00
     LineReader.read_piece LineReader.one_byte_later

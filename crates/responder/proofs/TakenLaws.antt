@@ -9,12 +9,12 @@ use native.Mathlib.Omega.{arith}
 use borrow.Author.Tests.{eq-eqb, ne_eqb, eqb-false}
 use lib.Dec.{leb, eqb}
 use lib.ListN.{length, take, drop, set, replicate, length-append, length-set}
-use lib.Seq.{take-take, drop-drop}
-use Rattle.octets.specs.Bytes.{bytes, number, run, number_at, overlay, put, copied, moved_down}
+use lib.Seq.{paste, take-take, drop-drop}
+use Rattle.octets.specs.Bytes.{bytes, number, run, number_at, overlay, put, moved_down}
 use Rattle.octets.proofs.Numbers.{length-bytes, number-bytes, one_byte}
 use Rattle.octets.proofs.Conditions.{cond-by}
-use Rattle.octets.proofs.Overlay.{length_run, length-overlay, overlay-before, overlay-after, overlay-inside, overlay-part, overlay-one}
-use Rattle.octets.proofs.Overlay.{overlay-more, copied-fits, moved_down-fits, next-put, next-copied}
+use Rattle.octets.proofs.Overlay.{length_run, length-overlay, overlay-before, overlay-after, overlay-part, overlay-one}
+use Rattle.octets.proofs.Overlay.{overlay-more, put-fits, moved_down-fits, next-put}
 use Rattle.supervisor.specs.Limits.{most_alerts, longest_alert}
 use Rattle.supervisor.specs.Layout
 use Rattle.supervisor.specs.Valid.{valid_registers}
@@ -37,6 +37,11 @@ module _ (r : List ℕ) (sequence : ℕ) {n : ℕ} (e : n ≡ Layout.retained_ve
   kept_by f g = rw (← e, ne_eqb _ _ f, g)
 
 -- ---- what is retained
+
+-- a run put over as many bytes of the same list
+pasted : (at from n : ℕ) (xs s : List ℕ) → run from n s ≡ xs → length xs ≡ n → paste s at (drop from s) n ≡ overlay at xs s
+unfolding overlay
+pasted at from n xs s e f = rw (f, ← e) (simp append_assoc)
 
 three-zeros : bytes 2 0 ++ 0 ∷ [] ≡ replicate 3 0
 unfolding bytes
@@ -65,13 +70,12 @@ module _ (r : List ℕ) (version sequence : ℕ) (small : version < 256) (long :
       )
       (simp (append_assoc, three-zeros))
 
-  -- the oldest alert, by way of a room of its length
-  pub oldest-retained : (room : List ℕ) {s t u : List ℕ} → length room ≡ Layout.alert_length → (Layout.alert_count r ≡ 0 → ⊥)
+  -- the oldest alert
+  pub oldest-retained : {s u : List ℕ} → (Layout.alert_count r ≡ 0 → ⊥)
       → s ≡ put Layout.retained_sequence_offset (bytes 8 sequence) (set r Layout.retained_offset version)
-      → t ≡ copied s Layout.alerts_offset Layout.alert_length room 0 → u ≡ copied t 0 Layout.alert_length s Layout.retained_alert_offset
-      → u ≡ with_reply r version sequence
+      → u ≡ paste s Layout.retained_alert_offset (drop Layout.alerts_offset s) Layout.alert_length → u ≡ with_reply r version sequence
   unfolding with_reply
-  oldest-retained room {s} {t} l e f g h =
+  oldest-retained {s} {u} e f h =
       let at = Layout.retained_offset in
       let head = bytes 1 version ++ bytes 8 sequence in
       let a = length_marked version 8 sequence in
@@ -79,17 +83,16 @@ module _ (r : List ℕ) (version sequence : ℕ) (small : version < 256) (long :
       let j = ap length i ∙ length-overlay at head r (omega arith) in
       let slot = run Layout.alerts_offset Layout.alert_length r in
       let k = length_run Layout.alerts_offset Layout.alert_length r (omega arith) in
-      let m : t ≡ overlay 0 slot room
-      = g ∙ copied-fits s Layout.alerts_offset Layout.alert_length room 0 (omega arith) (omega arith)
-      ∙ ap (λ (x : List ℕ). overlay 0 x room)
-      (rw i (overlay-before at Layout.alerts_offset Layout.alert_length head r (omega arith) (omega arith))) in
-      let n = ap length m ∙ length-overlay 0 slot room (omega arith) in
-      let o : run 0 Layout.alert_length t ≡ slot = rw m (rw k at (overlay-inside 0 slot room (omega arith))) in
-      rw (
-        h,
+      let l : length (overlay at head r) ≡ length r = length-overlay at head r (omega arith) in
+      let m : run Layout.alerts_offset Layout.alert_length s ≡ slot
+      = rw i (overlay-before at Layout.alerts_offset Layout.alert_length head r (omega arith) (omega arith)) in
+      let o : u ≡ overlay Layout.retained_alert_offset slot s
+      = h ∙ pasted Layout.retained_alert_offset Layout.alerts_offset Layout.alert_length slot s m k in
+      o
+      ∙ rw (
         i,
-        next-copied at Layout.retained_alert_offset head r (omega arith) t 0 Layout.alert_length (omega arith) (omega arith),
-        o,
+        ← put-fits Layout.retained_alert_offset slot (overlay at head r) (omega arith),
+        next-put at Layout.retained_alert_offset head r (omega arith) slot (omega arith),
         ne_eqb (Layout.alert_count r) 0 e,
         append_assoc,
       )

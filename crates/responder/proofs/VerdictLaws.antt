@@ -1,5 +1,6 @@
 -- Laws of the 00 of a frame: the verdict by what has come of it, how it ends, and the reader's part behind it.
 -- Assumes nothing.
+use Rattle.std.specs.Prelude.{Result, ⊤}
 use mathlib.Core.Path.{◌≡◌, refl, sym, ap, ◌∙◌}
 use mathlib.Core.Bool.{true}
 use mathlib.Core.List.{List, [], ◌∷◌}
@@ -13,7 +14,7 @@ use Rattle.line.specs.Judge as Line
 use Rattle.line.specs.Judge.{judge_received}
 use Rattle.line.specs.Reader as LineReader
 use Rattle.line.specs.Reader.{received_of}
-use Rattle.line.specs.declared.reader.Started.{Started}
+use Rattle.refusals.specs.declared.Refusal.{Refusal}
 use Rattle.line.proofs.Received.{ReaderStays, stays_same, valid-long, fresh-stays, fresh-received}
 use Rattle.line.proofs.Received.{finish-received, finish-stays, finish-data}
 use Rattle.supervisor.specs.Limits
@@ -85,7 +86,7 @@ module _ (s : List ℕ) (command n : ℕ) where
   other-command h = rw (ne_eqb command command_key_set h)
 
   module _ {d : List ℕ} {key : ℕ} (h : command ≡ command_key_set) (e : d ≡ LineReader.data_promise s n) (f : key ≡ number_at 1 d 0) where
-    pub passphrase-wiped : (r : Started) {t : List ℕ} → key ≡ Limits.passphrase_key
+    pub passphrase-wiped : (r : Result ⊤ Refusal) {t : List ℕ} → key ≡ Limits.passphrase_key
         → LineReader.reader_start_outcome r t ≡ LineReader.reader_start_promise s → t ≡ Receive.behind_message s command n
     passphrase-wiped r k g =
         let i : number_at 1 (LineReader.data_promise s n) 0 ≡ Limits.passphrase_key = sym (f ∙ rw e) ∙ k in

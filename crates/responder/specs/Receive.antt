@@ -1,9 +1,11 @@
 -- What a received byte does to the lent parts, and what the calls that receive answer and leave.
 -- Assumes nothing: these are definitions.
 use Rattle.std.specs.Prelude.{Bool, false, cond, not, ◌&&◌, ◌||◌, List, [], ◌∷◌, ◌++◌, ℕ, suc, ◌+◌, ◌-◌, ◌*◌, leb, ltb, eqb, length, take}
-use Rattle.std.specs.Prelude.{drop, replicate}
+use Rattle.std.specs.Prelude.{drop, replicate, Result, ⊤}
 use Rattle.std.proofs.Math.Option.{Option, none, some}
 use Rattle.octets.specs.Bytes.{bytes, run, number_at, overlay, equal}
+use Rattle.refusals.specs.declared.Refusal.{Refusal}
+use Rattle.refusals.specs.Refusals.{refusal_of}
 use Rattle.line.specs.Numbers.{status_length, reply_acknowledged, reply_decode_failure, reply_bsu, reply_identity, reply_mac, reply_status}
 use Rattle.line.specs.Numbers.{reply_alert, reply_image_block, reply_key_lookup, reply_inventory, reply_key_set, first_version}
 use Rattle.line.specs.Numbers.{second_version, command_key_set}
@@ -21,8 +23,6 @@ use Rattle.responder.specs.Requests.{Verdict, failure, good}
 use Rattle.supervisor.specs.Calls.{Parts, result_number, lookup_result_promise, lookup_promise, edition_number, edition_promise}
 use Rattle.responder.specs.declared.head.ReplyHead.{ReplyHead}
 use Rattle.responder.specs.declared.receive.Stepped.{Stepped}
-use Rattle.responder.specs.declared.receive.Received.{Received}
-use Rattle.responder.specs.declared.receive.Received.TheVariants as received
 
 -- ---- Sending
 
@@ -367,11 +367,10 @@ pub record ReceiveOutcome : Type 0 where
   pub refusal : Option ℕ
   pub parts : Parts
 
-unfoldable pub receive_report : Received → Option ℕ
-receive_report received.Done = none
-receive_report received.Refused = some 12
+unfoldable pub receive_report : Result ⊤ Refusal → Option ℕ
+receive_report = refusal_of
 
-abbrev pub receive_outcome : Received → Parts → ReceiveOutcome
+abbrev pub receive_outcome : Result ⊤ Refusal → Parts → ReceiveOutcome
 receive_outcome r p = record { refusal = receive_report r; parts = p }
 
 unfoldable pub receive_promise : List ℕ → Parts → List ℕ → ReceiveOutcome

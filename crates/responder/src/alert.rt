@@ -1,5 +1,6 @@
 // An alert request: the retained reply again, or the oldest alert.
-// Assumes valid registers, as each `requires` states.
+// Assumes valid registers, as each `requires` states. A request's version and number are two parameters: what is retained has them apart.
+// `word_at` has the bound that a proof here cites.
 ghost use Rattle.std.specs.Prelude.{◌≡◌, true, cond, ◌-◌, ◌≤◌, ◌<◌, leb, length};
 ghost use Rattle.supervisor.specs.Layout.{outbox_length, registers_length, alert_count};
 ghost use Rattle.supervisor.specs.Valid.{valid_registers};
@@ -25,13 +26,12 @@ pub(crate) fn alert(outbox: &mut [u8], registers: &mut [u8], version: u32, numbe
     let reply = head::head_to(first, number);
     let at = layout::RETAINED_ALERT_OFFSET;
     let n = octets::word_at(registers, at) + 1;
+    let from = at + layout::ALERT_ACTION_OFFSET;
     send_part(
         outbox,
         reply,
         numbers::REPLY_ALERT,
-        registers,
-        at + layout::ALERT_ACTION_OFFSET,
-        n,
+        &registers[from..from + n],
     );
 }
 
@@ -41,20 +41,17 @@ fn update_alerts(registers: &mut [u8], version: u32, number: RequestNumber)
     requires version_bound { version < 256 }
     ensures { registers.new ≡ alert_registers registers.old version number.0 }
 {
-    if is_retained(registers, number) {
-        return;
+    if !is_retained(registers, number) {
+        take_alert(registers, version, number);
     }
-    take_alert(registers, version, number);
 }
 
+#[tactic(auto, unfolding(crate::specs::Receive::is_retained))]
 fn is_retained(registers: &[u8], number: RequestNumber) -> bool
     ensures { result ≡ is_retained registers.now number.0 }
 {
-    if octets::byte_at(registers, layout::RETAINED_OFFSET) == 0 {
-        return false;
-    }
-    let sequence = octets::read_u64(registers, layout::RETAINED_SEQUENCE_OFFSET);
-    sequence == number.0
+    octets::read_u8(registers, layout::RETAINED_OFFSET) != 0
+        && octets::read_u64(registers, layout::RETAINED_SEQUENCE_OFFSET) == number.0
 }
 
 // The oldest alert, or none, is retained with the request's version and number, and the others move down.
@@ -63,7 +60,7 @@ fn take_alert(registers: &mut [u8], version: u32, number: RequestNumber)
     requires version_bound { version < 256 }
     ensures { registers.new ≡ with_taken registers.old version number.0 }
 {
-    let count = octets::byte_at(registers, layout::ALERT_COUNT_OFFSET);
+    let count = octets::read_u8(registers, layout::ALERT_COUNT_OFFSET);
     let status = octets::read_u64(registers, layout::STATUS_OFFSET);
     retain(registers, count, version, number);
     octets::move_down(
@@ -72,7 +69,7 @@ fn take_alert(registers: &mut [u8], version: u32, number: RequestNumber)
         layout::ALERTS_OFFSET,
         (layout::MOST_ALERTS - 1) * layout::ALERT_LENGTH,
     );
-    registers[layout::ALERT_COUNT_OFFSET] = one_less(count);
+    registers[layout::ALERT_COUNT_OFFSET] = count.saturating_sub(1);
     octets::write_u64(
         registers,
         layout::STATUS_OFFSET,
@@ -80,38 +77,27 @@ fn take_alert(registers: &mut [u8], version: u32, number: RequestNumber)
     );
 }
 
-fn one_less(count: usize) -> u8
-    requires { count < 256 }
-    ensures { result ≡ count - 1 }
-{
-    if count == 0 {
-        return 0;
-    }
-    (count - 1) as u8
-}
-
 // Status bit 1 is cleared where none of the alerts that waited is left.
-fn status_after(count: usize, status: u64) -> u64
+#[tactic(auto, using(std::proofs::lemmas::Bool::Decides::nat_tests))]
+fn status_after(count: u8, status: u64) -> u64
     ensures { result ≡ cond (leb count 1) (clear_bit status 1) status }
 {
     if count <= 1 {
-        return without_bit_1(status);
-    }
-    status
-}
-
-fn without_bit_1(status: u64) -> u64
-    ensures { result ≡ clear_bit status 1 }
-{
-    if status / 2 % 2 == 1 {
-        status - 2
+        without_bit_1(status)
     } else {
         status
     }
 }
 
+#[tactic(auto, unfolding(crate::specs::Requests::clear_bit))]
+fn without_bit_1(status: u64) -> u64
+    ensures { result ≡ clear_bit status 1 }
+{
+    status - status / 2 % 2 * 2
+}
+
 // The oldest of so many alerts, or action 0 and no text, with the request's version and number.
-fn retain(registers: &mut [u8], count: usize, version: u32, number: RequestNumber)
+fn retain(registers: &mut [u8], count: u8, version: u32, number: RequestNumber)
     requires registers_length_in_bounds { registers_length ≤ length registers.old }
     requires version_bound { version < 256 }
     requires count_value { count ≡ alert_count registers.old }
@@ -124,19 +110,8 @@ fn retain(registers: &mut [u8], count: usize, version: u32, number: RequestNumbe
         registers[layout::RETAINED_ALERT_OFFSET + layout::ALERT_ACTION_OFFSET] = 0;
         return;
     }
-    let mut oldest = [0u8; layout::ALERT_LENGTH];
-    octets::copy(
-        registers,
-        layout::ALERTS_OFFSET,
-        layout::ALERT_LENGTH,
-        &mut oldest,
-        0,
-    );
-    octets::copy(
-        &oldest,
-        0,
-        layout::ALERT_LENGTH,
-        registers,
+    registers.copy_within(
+        layout::ALERTS_OFFSET..layout::ALERTS_OFFSET + layout::ALERT_LENGTH,
         layout::RETAINED_ALERT_OFFSET,
     );
 }

@@ -26,14 +26,8 @@ pub(crate) fn send_bsu(outbox: &mut [u8], reply: ReplyHead, factory: &[u8])
     ensures { outbox.new
         ≡ sent_box (reply_bytes reply reply_bsu (run bsu_offset 1 factory.now)) outbox.old }
 {
-    send_part(
-        outbox,
-        reply,
-        numbers::REPLY_BSU,
-        factory,
-        layout::BSU_OFFSET,
-        1,
-    );
+    let bsu = &factory[layout::BSU_OFFSET..layout::BSU_OFFSET + 1];
+    send_part(outbox, reply, numbers::REPLY_BSU, bsu);
 }
 
 // Model, revision and serial.
@@ -43,14 +37,9 @@ pub(crate) fn send_identity(outbox: &mut [u8], reply: ReplyHead, factory: &[u8])
     ensures { outbox.new
         ≡ sent_box (reply_bytes reply reply_identity (run identity_offset identity_length factory.now)) outbox.old }
 {
-    send_part(
-        outbox,
-        reply,
-        numbers::REPLY_IDENTITY,
-        factory,
-        layout::IDENTITY_OFFSET,
-        layout::IDENTITY_LENGTH,
-    );
+    let at = layout::IDENTITY_OFFSET;
+    let identity = &factory[at..at + layout::IDENTITY_LENGTH];
+    send_part(outbox, reply, numbers::REPLY_IDENTITY, identity);
 }
 
 // The address base, count and stride.
@@ -60,14 +49,8 @@ pub(crate) fn send_mac(outbox: &mut [u8], reply: ReplyHead, factory: &[u8])
     ensures { outbox.new
         ≡ sent_box (reply_bytes reply reply_mac (run mac_offset mac_length factory.now)) outbox.old }
 {
-    send_part(
-        outbox,
-        reply,
-        numbers::REPLY_MAC,
-        factory,
-        layout::MAC_OFFSET,
-        layout::MAC_LENGTH,
-    );
+    let mac = &factory[layout::MAC_OFFSET..layout::MAC_OFFSET + layout::MAC_LENGTH];
+    send_part(outbox, reply, numbers::REPLY_MAC, mac);
 }
 
 // Status and options.
@@ -77,14 +60,9 @@ pub(crate) fn send_status(outbox: &mut [u8], reply: ReplyHead, registers: &[u8])
     ensures { outbox.new
         ≡ sent_box (reply_bytes reply reply_status (run status_offset status_length registers.now)) outbox.old }
 {
-    send_part(
-        outbox,
-        reply,
-        numbers::REPLY_STATUS,
-        registers,
-        layout::STATUS_OFFSET,
-        numbers::STATUS_LENGTH,
-    );
+    let at = layout::STATUS_OFFSET;
+    let status = &registers[at..at + numbers::STATUS_LENGTH];
+    send_part(outbox, reply, numbers::REPLY_STATUS, status);
 }
 
 // A block of the image: hash[32], offset u64.
@@ -102,17 +80,12 @@ pub(crate) fn send_block(
         outbox.old }
 {
     if !octets::same(data, 0, factory, layout::HASH_OFFSET, layout::HASH_LENGTH) {
-        send_part(outbox, reply, numbers::REPLY_IMAGE_BLOCK, image, 0, 0);
+        send_part(outbox, reply, numbers::REPLY_IMAGE_BLOCK, &[]);
         return;
     }
     let offset = octets::read_u64(data, layout::HASH_LENGTH) as usize;
-    send(
-        outbox,
-        reply,
-        numbers::REPLY_IMAGE_BLOCK,
-        &image[0..0],
-        octets::part(image, offset, layout::LONGEST_BLOCK),
-    );
+    let block = octets::part(image, offset, layout::LONGEST_BLOCK);
+    send_part(outbox, reply, numbers::REPLY_IMAGE_BLOCK, block);
 }
 
 // A lookup: key u8, maxresponse u16.
@@ -139,25 +112,19 @@ pub(crate) fn send_value<'a>(
     let mut head = [result, 0, 0, 0, 0];
     octets::write_u32(&mut head, 1, edition);
     let n = head_length(reply.version, result);
-    send(
-        outbox,
-        reply,
-        numbers::REPLY_KEY_LOOKUP,
-        &head[0..n],
-        keys::value_at(factory, settings, key, p, most),
-    );
+    let value = keys::value_at(factory, settings, key, p, most);
+    send(outbox, reply, numbers::REPLY_KEY_LOOKUP, &head[..n], value);
 }
 
 // How many bytes stand ahead of a lookup's value: the result, and in the second version the edition where the result is 0.
 fn head_length(version: u32, res: u8) -> usize
     ensures { (result ≡ cond (carries_edition version res) 5 1) × (result ≤ 5) }
 {
-    if version == numbers::SECOND_VERSION {
-        if res == 0 {
-            return 5;
-        }
+    if version == numbers::SECOND_VERSION && res == 0 {
+        5
+    } else {
+        1
     }
-    1
 }
 
 // An inventory item by its index.
@@ -169,14 +136,13 @@ pub(crate) fn send_item(outbox: &mut [u8], reply: ReplyHead, factory: &[u8], ind
 {
     let count = octets::read_u32(factory, layout::ITEM_COUNT_OFFSET) as usize;
     if count <= index {
-        let result = [BAD_INDEX];
         let nothing = [0u8; NAME_AND_TYPE];
         send(
             outbox,
             reply,
             numbers::REPLY_INVENTORY,
-            &result[0..1],
-            &nothing[0..NAME_AND_TYPE],
+            &[BAD_INDEX],
+            &nothing,
         );
         return;
     }
@@ -192,7 +158,7 @@ pub(crate) fn send_item(outbox: &mut [u8], reply: ReplyHead, factory: &[u8], ind
     );
 }
 
-// How many bytes of data the reply for the item at an offset has: those of a result 0.
+// How many bytes of data the reply for the item at an offset has: those of a result 0. `byte_at` has the bound that the proof cites.
 fn item_data_length(factory: &[u8], at: usize) -> usize
     requires { at < 65536 }
     ensures { result ≡ item_data_length factory.now at }

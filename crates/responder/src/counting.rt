@@ -5,13 +5,15 @@ ghost use Rattle.supervisor.specs.Calls.{parts};
 ghost use Rattle.responder.specs.Receive.{receive_outcome, receive_promise};
 ghost use Rattle.responder.specs.Counting.{count_promise};
 
-use crate::receive::{Received, are_valid, valid_step};
+use crate::receive::valid_step;
+use crate::stores::{Stores, are_valid};
 use counters::Counters;
+use refusals::Refusal;
 
 // What a receive that counts by value says, and the counters that it leaves.
 #[derive(Clone, Copy)]
 pub struct Tallied {
-    pub answer: Received,
+    pub answer: Result<(), Refusal>,
     pub counters: Counters,
 }
 
@@ -37,32 +39,28 @@ pub fn receive_tallied(
         piece.now) }
 {
     let mut tally = counters;
-    if !are_valid(reader, outbox, factory, settings, registers) {
-        let answer = Received::Refused;
+    let mut stores = Stores {
+        image,
+        factory,
+        outbox,
+        settings,
+        registers,
+    };
+    if !are_valid(reader, &stores) {
         return Tallied {
-            answer,
+            answer: Err(Refusal::BadState),
             counters: tally,
         };
     }
+    // A `while`, as that of `receive`.
     let mut at = 0;
     while at < piece.len() {
-        let done = valid_step(
-            image,
-            &piece[at..],
-            reader,
-            outbox,
-            factory,
-            settings,
-            registers,
-        );
-        let outcome = done.outcome;
-        tally = counters::bumped(tally, outcome);
-        let used = done.used;
-        at += used;
+        let done = valid_step(&piece[at..], reader, &mut stores);
+        tally = counters::bumped(tally, done.outcome);
+        at += done.used;
     }
-    let answer = Received::Done;
     Tallied {
-        answer,
+        answer: Ok(()),
         counters: tally,
     }
 }

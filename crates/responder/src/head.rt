@@ -1,7 +1,7 @@
 // The head of a reply: its version and its number.
 // Assumes nothing.
 ghost use Rattle.std.specs.Prelude.{◌≡◌};
-ghost use Rattle.std.proofs.Math.Option.{none};
+ghost use Rattle.std.proofs.Math.Option.{none, some};
 ghost use Rattle.line.specs.Numbers.{first_version};
 ghost use Rattle.responder.specs.Receive.{reply_head, failure_head};
 
@@ -35,4 +35,11 @@ pub(crate) fn unnumbered() -> ReplyHead
         version: numbers::FIRST_VERSION,
         number: reply,
     }
+}
+
+// The head of a failure's reply whose request has this number.
+pub(crate) fn numbered(sequence: u64) -> ReplyHead
+    ensures { result ≡ failure_head first_version (some sequence) }
+{
+    head_to(numbers::FIRST_VERSION, RequestNumber(sequence))
 }

@@ -4,6 +4,7 @@
 
 mod alert;
 mod answers;
+mod commands;
 pub mod counting;
 mod head;
 pub mod receive;
@@ -11,4 +12,5 @@ mod records;
 mod requests;
 mod sending;
 mod settings;
+mod stores;
 mod wiping;

@@ -60,7 +60,8 @@ pub(crate) fn panic(outbox: &mut [u8], registers: &mut [u8], reply: ReplyHead, d
     acknowledge(outbox, reply);
 }
 
-// A record of a code and of the data from an offset on: at most 512 bytes of them are kept.
+// A record of a code and of the data from an offset on: at most 512 bytes of them are kept. Its five parameters
+// travel no further.
 fn set_record(registers: &mut [u8], at: usize, code: u16, data: &[u8], from: usize)
     requires at_le_panic_offset { at ≤ panic_offset }
     requires registers_length_in_bounds { registers_length ≤ length registers.old }
@@ -72,7 +73,7 @@ fn set_record(registers: &mut [u8], at: usize, code: u16, data: &[u8], from: usi
     registers[at] = 1;
     octets::write_u16(registers, at + layout::RECORD_CODE_OFFSET, code);
     octets::write_u16(registers, at + layout::RECORD_WHOLE_OFFSET, whole as u16);
-    let kept = octets::min(whole, layout::MOST_KEPT);
+    let kept = whole.min(layout::MOST_KEPT);
     octets::copy(data, from, kept, registers, at + layout::RECORD_KEPT_OFFSET);
 }
 
@@ -89,8 +90,9 @@ pub(crate) fn start_acknowledged(outbox: &mut [u8], registers: &mut [u8], reply:
     acknowledge(outbox, reply);
 }
 
+#[tactic(auto, unfolding(crate::specs::Requests::clear_bit))]
 fn without_bit_0(status: u64) -> u64
     ensures { result ≡ clear_bit status 0 }
 {
-    if status % 2 == 1 { status - 1 } else { status }
+    status - status % 2
 }

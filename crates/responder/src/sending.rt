@@ -1,7 +1,7 @@
 // Sending: a reply, or none, takes the place of what is unsent.
 // Assumes that the outbox has its published length and that the data fit a message, as each `requires` states.
 ghost use Rattle.std.specs.Prelude.{◌≡◌, cond, [], ◌∷◌, ◌++◌, ◌+◌, ◌≤◌, suc, eqb, length};
-ghost use Rattle.octets.specs.Bytes.{bytes, run, overlay};
+ghost use Rattle.octets.specs.Bytes.{bytes, overlay};
 ghost use Rattle.line.specs.Limits.{longest_data, longest_form};
 ghost use Rattle.line.specs.Numbers.{reply_acknowledged, reply_decode_failure};
 ghost use Rattle.supervisor.specs.Layout.{outbox_length, outbox_from_offset, outbox_bytes_offset, outbox_terminator_owed};
@@ -11,7 +11,6 @@ ghost use Rattle.responder.specs.Receive.{sent_box, reply_bytes};
 use crate::head::ReplyHead;
 use counters::outcome::Outcome;
 use line::numbers;
-use line::writer::Written;
 use supervisor::layout;
 
 // A reply whose data are head and then rest.
@@ -33,7 +32,7 @@ pub(crate) fn send_none(outbox: &mut [u8])
     set_pending(outbox, 0);
 }
 
-// The reply's frame behind the place for a 00, and its length.
+// The reply's frame behind the place for a 00, and its length. Its parameters are those of `send`.
 fn write_reply(outbox: &mut [u8], reply: ReplyHead, command: u8, head: &[u8], rest: &[u8]) -> usize
     requires outbox_length_in_bounds { outbox_length ≤ length outbox.old }
     requires rest_len_bound { length head.now + length rest.now ≤ longest_data }
@@ -42,20 +41,15 @@ fn write_reply(outbox: &mut [u8], reply: ReplyHead, command: u8, head: &[u8], re
     ensures outbox_after { outbox.new
         ≡ overlay (outbox_bytes_offset + 1) (reply_bytes reply command (head.now ++ rest.now)) outbox.old }
 {
-    let number = reply.number;
-    let written = line::writer::write(
+    line::writer::write(
         reply.version,
-        number.0,
+        reply.number.0,
         command,
-        &head[0..],
-        &rest[0..],
+        head,
+        rest,
         &mut outbox[layout::OUTBOX_BYTES_OFFSET + 1..],
-    );
-    match written {
-        Written::Done(n) => n,
-        Written::NoRoom => 0,
-        Written::TooLong => 0,
-    }
+    )
+    .unwrap()
 }
 
 // The n bytes of a reply behind the place for a 00 become the pending ones.
@@ -67,34 +61,20 @@ fn set_pending(outbox: &mut [u8], n: usize)
         ≡ overlay outbox_from_offset (bytes 2 (cond (eqb (outbox_terminator_owed outbox.old) 1) 0 1) ++ bytes 2 (suc n))
         (overlay outbox_bytes_offset (0 ∷ []) outbox.old) }
 {
-    let from = first(octets::byte_at(outbox, layout::OUTBOX_TERMINATOR_OWED_OFFSET));
+    let owed = octets::read_u8(outbox, layout::OUTBOX_TERMINATOR_OWED_OFFSET);
+    let from = u16::from(owed != 1);
     outbox[layout::OUTBOX_BYTES_OFFSET] = 0;
     octets::write_u16(outbox, layout::OUTBOX_FROM_OFFSET, from);
     octets::write_u16(outbox, layout::OUTBOX_TO_OFFSET, (n + 1) as u16);
 }
 
-// Where the pending bytes begin.
-fn first(owed: usize) -> u16
-    ensures { result ≡ cond (eqb owed 1) 0 1 }
-{
-    if owed == 1 { 0 } else { 1 }
-}
-
-// A reply whose data are n bytes of a store.
-pub(crate) fn send_part(
-    outbox: &mut [u8],
-    reply: ReplyHead,
-    command: u8,
-    store: &[u8],
-    at: usize,
-    n: usize,
-)
+// A reply whose data are one part.
+pub(crate) fn send_part(outbox: &mut [u8], reply: ReplyHead, command: u8, part: &[u8])
     requires outbox_length_in_bounds { outbox_length ≤ length outbox.old }
-    requires n_in_bounds { at + n ≤ length store.now }
-    requires n_le_longest_data { n ≤ longest_data }
-    ensures { outbox.new ≡ sent_box (reply_bytes reply command (run at n store.now)) outbox.old }
+    requires part_len_bound { length part.now ≤ longest_data }
+    ensures { outbox.new ≡ sent_box (reply_bytes reply command part.now) outbox.old }
 {
-    send(outbox, reply, command, &store[at..at + n], &store[0..0]);
+    send(outbox, reply, command, part, &[]);
 }
 
 // A reply whose data are one byte.
@@ -102,8 +82,7 @@ pub(crate) fn send_byte(outbox: &mut [u8], reply: ReplyHead, command: u8, byte: 
     requires { outbox_length ≤ length outbox.old }
     ensures { outbox.new ≡ sent_box (reply_bytes reply command (bytes 1 byte)) outbox.old }
 {
-    let one = [byte];
-    send_part(outbox, reply, command, &one, 0, 1);
+    send_part(outbox, reply, command, &[byte]);
 }
 
 // A reply without data.
@@ -111,8 +90,7 @@ pub(crate) fn acknowledge(outbox: &mut [u8], reply: ReplyHead)
     requires { outbox_length ≤ length outbox.old }
     ensures { outbox.new ≡ sent_box (reply_bytes reply reply_acknowledged []) outbox.old }
 {
-    let none = [0u8];
-    send_part(outbox, reply, numbers::REPLY_ACKNOWLEDGED, &none, 0, 0);
+    send_part(outbox, reply, numbers::REPLY_ACKNOWLEDGED, &[]);
 }
 
 // A decode failure with its reason.

@@ -15,6 +15,6 @@ pub(crate) fn wipe_passphrase(reader: &mut [u8], command: u8, length: usize)
     }
     let key = octets::read_u8(line::reader::message_data(reader, length), 0);
     if key == layout::PASSPHRASE_KEY {
-        line::reader::start(reader);
+        let _ = line::reader::start(reader);
     }
 }

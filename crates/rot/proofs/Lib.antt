@@ -4,6 +4,4 @@ pub mod Xor
 pub mod TableRule
 pub mod Register
 pub mod Message
-pub mod Writing
-pub mod Judging
 pub mod Reading

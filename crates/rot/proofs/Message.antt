@@ -50,7 +50,3 @@ assembled type crc payload s room c e₁ e₂ e₃ =
     let i₂ = e₂ ∙ put_next _ (bytes 4 crc) s crc_field_offset (simp length-bytes) i₁ (omega arith) in
     let i₃ = e₃ ∙ copy-next _ payload s rot_header_length (simp (length-append, length-bytes)) i₂ room in
     rw (append_assoc, c) at i₃
-
-pub assembled-length : (m : RotMessage) (s : List ℕ) {t : List ℕ} → rot_header_length + length m.payload ≤ length s
-    → t ≡ overlay 0 (rot_message m) s → length t ≡ length s
-assembled-length m s room e = rw e (length-overlay 0 (rot_message m) s (omega (arith, length-message m)))

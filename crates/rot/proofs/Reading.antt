@@ -1,26 +1,24 @@
 -- Laws of what is made of the input: what is known of a message, and what the reader makes of it.
 -- Assumes nothing.
-use mathlib.Core.Path.{◌≡◌, refl, sym, ◌∙◌}
+use mathlib.Core.Path.{◌≡◌, refl, sym}
 use mathlib.Core.Bool.{true}
 use mathlib.Core.List.{List, []}
 use Prim.Native.Nat.{ℕ, ◌+◌, ◌≤◌}
 use native.Mathlib.Omega.{arith}
-use borrow.Author.Tests.{ltb-false, eqb-true, eq-eqb, ne_eqb, not-false}
+use borrow.Author.Tests.{ltb-false, eqb-true, eq-eqb, ne_eqb, not-false, le-ltb}
 use lib.ListN.{length}
 use Rattle.octets.proofs.Conditions.{cond-by}
 use Rattle.octets.proofs.Overlay.{length_run}
 use Rattle.rot.specs.Limits.{rot_header_length, longest_payload}
 use Rattle.rot.specs.Crc.{crc}
-use Rattle.rot.specs.Message.{version_1, echo_request, echo_response, listed_type, RotMessage}
-use Rattle.rot.specs.Answers.{handed, rot_outcome}
+use Rattle.rot.specs.Message.{version_1, echo_request, echo_response, listed_type, RotMessage, rot_message}
+use Rattle.rot.specs.Answers.{handed, rot_outcome, rot_write_into}
 use Rattle.rot.specs.Writing.{rot_message_with, rot_write_promise}
 use Rattle.rot.specs.Reading.{protocol_of, type_of, payload_length, crc_field, rot_payload, checked, RotVerdict, failure, unsent, good}
 use Rattle.rot.specs.Reading.{no_input, nothing_sent, wrong_protocol, short_header, long_payload, cut_short, wrong_crc, wrong_type}
 use Rattle.rot.specs.Reading.{judge_message, judge_length, rot_judge, judged_as, serve_message, answer_to, rot_read_promise, handed_part}
 use Rattle.rot.specs.Reading.{payload_promise, payload_offset}
-use Rattle.rot.specs.declared.reader.Verdict.{Verdict}
-use Rattle.rot.specs.declared.reader.Verdict.TheVariants as verdict
-use Rattle.rot.proofs.Writing.{write-sends}
+use Rattle.std.specs.Prelude.{Ok, Some}
 
 -- what is known of a message that was read: its fields, and that it passed the tests
 pub record Sound (input : List ℕ) (m : RotMessage) : Type 0 where
@@ -63,12 +61,22 @@ judged-sound input m e = rw e at (judges input)
 pub sound-length : (input : List ℕ) {m : RotMessage} → Sound input m → length (rot_payload input) ≡ payload_length input
 sound-length input s = length_run rot_header_length (payload_length input) input s.whole
 
+-- and the input goes on behind its header
+pub header-there : (input : List ℕ) (m : RotMessage) → rot_judge input ≡ good m → rot_header_length ≤ length input
+header-there input m e = omega (arith, (judged-sound input m e).whole)
+
+-- what the writer does not refuse is sent
+write-sends : (m : RotMessage) (out : List ℕ) → length m.payload ≤ longest_payload → listed_type m.type ≡ true
+    → rot_write_into (rot_message m) out ≡ rot_write_promise m out
+unfolding rot_write_promise
+write-sends m out fits l = rw (le-ltb longest_payload (length m.payload) fits, l)
+
 -- ---- a message by the code's verdict
 
-module _ (input : List ℕ) {kind : ℕ} {v : Verdict} (j : judged_as input v ≡ rot_judge input) (e : v ≡ verdict.Good kind) where
-  found : rot_judge input ≡ good (rot_message_with kind (rot_payload input))
+module _ (input : List ℕ) {kind : ℕ} (j : judged_as input (Ok (Some kind)) ≡ rot_judge input) where
+  pub found : rot_judge input ≡ good (rot_message_with kind (rot_payload input))
   unfolding judged_as
-  found = sym j ∙ rw e
+  found = sym j
 
   pub payload-echo : kind ≡ echo_request → [] ≡ payload_promise input
   unfolding handed_part payload_promise
@@ -85,9 +93,6 @@ module _ (input : List ℕ) {kind : ℕ} {v : Verdict} (j : judged_as input v �
   pub offset-handed : (kind ≡ echo_request → ⊥) → payload_offset (rot_judge input) ≡ rot_header_length
   unfolding payload_offset
   offset-handed k = rw (found, ne_eqb kind echo_request k)
-
-  pub header-there : rot_header_length ≤ length input
-  header-there = omega (arith, (judged-sound input _ found).whole)
 
   -- the writer's answer to an echo request is the reader's
   pub read-echo : (out : List ℕ) → kind ≡ echo_request

@@ -179,3 +179,6 @@ by-table c b h i =
     rw (p, q, xor_zero_r l) at (xor_block 24 t b l 0 (omega arith) (omega arith)) in
     rw (bits-shift 8 (2 ^ 24) b c (omega arith) refl i h, met, ← xor_shifted (bit_xor t b) 24 l (omega arith))
     (shifts-low 8 (bit_xor t b * 2 ^ 24) l (omega arith) (omega arith))
+
+-- the laws that the sources name
+pub ruleset register_laws = (after-append, by-table)

@@ -1,7 +1,8 @@
 -- What a call of the reader says and leaves: the first failing test decides (document 02, item 7).
 -- Assumes nothing: these are definitions.
-use Rattle.std.specs.Prelude.{Bool, cond, not, List, [], ◌++◌, ℕ, ◌+◌, eqb, ltb, length, take}
-use Rattle.std.proofs.Math.Option.{Option, none, some}
+use Rattle.std.specs.Prelude.{Bool, cond, not, List, [], ◌++◌, ℕ, ◌+◌, eqb, ltb, length, take, ⊤, Option, None, Some, Result, Ok, Err}
+use Rattle.std.proofs.Math.Option.{none, some}
+use Rattle.std.proofs.Math.Option as report
 use Rattle.octets.specs.Bytes.{run, number_at}
 use Rattle.octets.specs.Places.{LentBytes, Place, place_in}
 use Rattle.rot.specs.Limits.{crc_field_offset, rot_header_length, longest_payload}
@@ -10,10 +11,7 @@ use Rattle.rot.specs.Message.{null_protocol, version_1, echo_request, listed_typ
 use Rattle.rot.specs.Answers.{RotReport, refused, nothing, handed, wrote, RotOutcome, rot_outcome, rot_write_into, refusal_number}
 use Rattle.rot.specs.declared.reader.Answer.{Answer}
 use Rattle.rot.specs.declared.reader.Answer.TheVariants as answer
-use Rattle.rot.specs.declared.reader.Handed.{Handed}
-use Rattle.rot.specs.declared.reader.Handed.TheVariants as given-answer
-use Rattle.rot.specs.declared.reader.Verdict.{Verdict}
-use Rattle.rot.specs.declared.reader.Verdict.TheVariants as verdict
+use Rattle.rot.specs.declared.refusals.Refusal.{Refusal}
 
 -- The fields of what came.
 
@@ -97,11 +95,11 @@ rot_judge input =
     (cond (short_header input) (failure 22)
     (judge_length input))))
 
--- what a verdict of the code stands for
-unfoldable pub judged_as : List ℕ → Verdict → RotVerdict
-judged_as input (verdict.Refused why) = failure (refusal_number why)
-judged_as input verdict.Nothing = unsent
-judged_as input (verdict.Good kind) = good (record { type = kind; payload = rot_payload input })
+-- what a verdict of the code stands for: a message by its type, or nothing sent
+unfoldable pub judged_as : List ℕ → Result (Option ℕ) Refusal → RotVerdict
+judged_as input (Err why) = failure (refusal_number why)
+judged_as input (Ok None) = unsent
+judged_as input (Ok (Some kind)) = good (record { type = kind; payload = rot_payload input })
 
 -- a message: an echo request is answered in the room, any other is handed out; 8 is for the echo's answer alone
 unfoldable pub serve_message : RotMessage → List ℕ → RotOutcome
@@ -117,11 +115,11 @@ answer_to (good m) out = serve_message m out
 unfoldable pub rot_read_promise : List ℕ → List ℕ → RotOutcome
 rot_read_promise input out = answer_to (rot_judge input) out
 
-unfoldable pub rot_read_report : Answer → RotReport
-rot_read_report (answer.Refused why) = refused (refusal_number why)
-rot_read_report answer.Nothing = nothing
-rot_read_report (answer.Message head) = handed head.kind head.length
-rot_read_report (answer.Echoed n) = wrote n
+unfoldable pub rot_read_report : Result Answer Refusal → RotReport
+rot_read_report (Err why) = refused (refusal_number why)
+rot_read_report (Ok answer.Nothing) = nothing
+rot_read_report (Ok (answer.Message head)) = handed head.kind head.length
+rot_read_report (Ok (answer.Echoed n)) = wrote n
 
 -- A call of `payload`: that of the message that `read` hands out; an empty part where it hands out none.
 unfoldable pub handed_part : RotVerdict → List ℕ
@@ -133,17 +131,17 @@ unfoldable pub payload_promise : List ℕ → List ℕ
 payload_promise input = handed_part (rot_judge input)
 
 -- A call of `payload_given`: the number with which `read` refuses the input, none where it does not.
-unfoldable pub verdict_number : RotVerdict → Option ℕ
+unfoldable pub verdict_number : RotVerdict → report.Option ℕ
 verdict_number (failure n) = some n
 verdict_number unsent = none
 verdict_number (good m) = none
 
-unfoldable pub payload_given_promise : List ℕ → Option ℕ
+unfoldable pub payload_given_promise : List ℕ → report.Option ℕ
 payload_given_promise input = verdict_number (rot_judge input)
 
-unfoldable pub payload_given_report : Handed → Option ℕ
-payload_given_report (given-answer.Refused why) = some (refusal_number why)
-payload_given_report given-answer.Given = none
+unfoldable pub payload_given_report : Result ⊤ Refusal → report.Option ℕ
+payload_given_report (Err why) = some (refusal_number why)
+payload_given_report (Ok _) = none
 
 -- It begins behind the header; an empty part for want of a message begins where the input does.
 unfoldable pub payload_offset : RotVerdict → ℕ

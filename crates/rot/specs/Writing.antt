@@ -1,15 +1,14 @@
 -- What a call of the writer says and leaves (document 02, item 7).
 -- Assumes nothing: these are definitions.
-use Rattle.std.specs.Prelude.{cond, List, ltb, length, ℕ}
+use Rattle.std.specs.Prelude.{cond, List, ltb, length, ℕ, Result, Ok, Err}
 use Rattle.rot.specs.Limits.{longest_payload}
 use Rattle.rot.specs.Message.{listed_type, RotMessage, rot_message}
 use Rattle.rot.specs.Answers.{RotReport, refused, wrote, RotOutcome, rot_outcome, rot_write_into, refusal_number}
-use Rattle.rot.specs.declared.writer.Written.{Written}
-use Rattle.rot.specs.declared.writer.Written.TheVariants as answer
+use Rattle.rot.specs.declared.refusals.Refusal.{Refusal}
 
-unfoldable pub rot_write_report : Written → RotReport
-rot_write_report (answer.Done n) = wrote n
-rot_write_report (answer.Refused why) = refused (refusal_number why)
+unfoldable pub rot_write_report : Result ℕ Refusal → RotReport
+rot_write_report (Ok n) = wrote n
+rot_write_report (Err why) = refused (refusal_number why)
 
 abbrev pub rot_message_with : ℕ → List ℕ → RotMessage
 rot_message_with type payload = record { type = type; payload = payload }

@@ -1,5 +1,5 @@
 // The lengths and numbers of the root-of-trust link, each in one place; specs/Limits.antt and specs/Message.antt have the same.
-// Assumes nothing.
+// Assumes nothing. A type is a number: `write` takes any, and refuses one that is not listed.
 pub(crate) const TYPE_OFFSET: usize = 1;
 
 pub(crate) const LENGTH_OFFSET: usize = 2;

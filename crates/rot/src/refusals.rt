@@ -3,7 +3,7 @@
 ghost use Rattle.std.specs.Prelude.{◌≡◌};
 ghost use Rattle.rot.specs.Answers.{refusal_number};
 
-#[derive(Clone, Copy)]
+#[derive(Clone, Copy, Debug, PartialEq, Eq)]
 pub enum Refusal {
     NoRoom,
     NoInput,
@@ -15,18 +15,21 @@ pub enum Refusal {
     BadType,
 }
 
-// The number of a refusal.
-pub fn number(why: Refusal) -> u32
-    ensures { result ≡ refusal_number why }
-{
-    match why {
-        Refusal::NoRoom => 8,
-        Refusal::NoInput => 20,
-        Refusal::BadProtocol => 21,
-        Refusal::ShortHeader => 22,
-        Refusal::TooLong => 23,
-        Refusal::CutShort => 24,
-        Refusal::BadCrc => 25,
-        Refusal::BadType => 26,
+impl Refusal {
+    // The number of a refusal.
+    #[tactic(auto, unfolding(crate::specs::Answers::refusal_number))]
+    pub fn number(self) -> u32
+        ensures { result ≡ refusal_number self }
+    {
+        match self {
+            Refusal::NoRoom => 8,
+            Refusal::NoInput => 20,
+            Refusal::BadProtocol => 21,
+            Refusal::ShortHeader => 22,
+            Refusal::TooLong => 23,
+            Refusal::CutShort => 24,
+            Refusal::BadCrc => 25,
+            Refusal::BadType => 26,
+        }
     }
 }

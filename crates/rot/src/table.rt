@@ -3,7 +3,7 @@
 ghost use Rattle.std.specs.Prelude.{◌≡◌};
 ghost use Rattle.rot.specs.Table.{table_entry, Entries};
 
-const TABLE: [u32; 256] = [
+const ENTRIES: [u32; 256] = [
     0x00000000, 0x04c11db7, 0x09823b6e, 0x0d4326d9, 0x130476dc, 0x17c56b6b, 0x1a864db2, 0x1e475005,
     0x2608edb8, 0x22c9f00f, 0x2f8ad6d6, 0x2b4bcb61, 0x350c9b64, 0x31cd86d3, 0x3c8ea00a, 0x384fbdbd,
     0x4c11db70, 0x48d0c6c7, 0x4593e01e, 0x4152fda9, 0x5f15adac, 0x5bd4b01b, 0x569796c2, 0x52568b75,
@@ -38,17 +38,22 @@ const TABLE: [u32; 256] = [
     0xafb010b1, 0xab710d06, 0xa6322bdf, 0xa2f33668, 0xbcb4666d, 0xb8757bda, 0xb5365d03, 0xb1f740b4,
 ];
 
-// The table. A caller takes it once for many bytes.
-pub(crate) fn table() -> [u32; 256]
-    ensures { Entries result }
-{
-    TABLE
+// The table, whose entries follow the rule. A caller makes it once for many bytes.
+#[derive(Drop)]
+pub(crate) struct Table {
+    entries: [u32; 256],
+    ghost follows_rule: { Entries entries },
 }
 
-// The entry at a byte.
-pub(crate) fn entry(table: &[u32; 256], byte: u8) -> u32
-    requires { Entries table.now }
-    ensures { result ≡ table_entry byte }
-{
-    table[byte as usize]
+impl Table {
+    pub(crate) fn new() -> Table {
+        Table { entries: ENTRIES }
+    }
+
+    // The entry at a byte.
+    pub(crate) fn entry(&self, byte: u8) -> u32
+        ensures { result ≡ table_entry byte }
+    {
+        self.entries[usize::from(byte)]
+    }
 }

@@ -10,42 +10,34 @@ ghost use Rattle.rot.specs.Writing.{rot_write_report, rot_message_with, rot_writ
 use crate::refusals::Refusal;
 use crate::{crc, limits};
 
-// What a call of `write` answers: how many bytes it wrote, or why it wrote none.
-#[derive(Clone, Copy)]
-pub enum Written {
-    Done(usize),
-    Refused(Refusal),
-}
-
-// Writes a message of version 1.
-pub fn write(kind: u8, payload: &[u8], out: &mut [u8]) -> Written
+// Writes a message of version 1; how many bytes it has.
+pub fn write(kind: u8, payload: &[u8], out: &mut [u8]) -> Result<usize, Refusal>
     ensures { rot_outcome (rot_write_report result) out.new
         ≡ rot_write_promise (rot_message_with kind payload.now) out.old }
 {
     if limits::LONGEST_PAYLOAD < payload.len() {
-        return Written::Refused(Refusal::TooLong);
+        return Err(Refusal::TooLong);
     }
     if !is_listed(kind) {
-        return Written::Refused(Refusal::BadType);
+        return Err(Refusal::BadType);
     }
-    if out.len() < limits::HEADER_LENGTH + payload.len() {
-        return Written::Refused(Refusal::NoRoom);
+    let n = limits::HEADER_LENGTH + payload.len();
+    if out.len() < n {
+        return Err(Refusal::NoRoom);
     }
     put(kind, payload, out);
-    Written::Done(limits::HEADER_LENGTH + payload.len())
+    Ok(n)
 }
 
 // Whether a type is 01 to 09.
 pub(crate) fn is_listed(kind: u8) -> bool
     ensures { result ≡ listed_type kind }
 {
-    if kind < limits::ERROR_RESPONSE {
-        return false;
-    }
-    kind <= limits::SINK_RESPONSE
+    (limits::ERROR_RESPONSE..=limits::SINK_RESPONSE).contains(&kind)
 }
 
 // The message's bytes at the start of the room.
+#[tactic(auto, using(crate::proofs::Message::assembled))]
 fn put(kind: u8, payload: &[u8], out: &mut [u8])
     requires payload_len_bound { length payload.now ≤ longest_payload }
     requires payload_in_bounds { rot_header_length + length payload.now ≤ length out.old }
@@ -60,11 +52,12 @@ fn put(kind: u8, payload: &[u8], out: &mut [u8])
 }
 
 // The CRC that a message carries.
+#[tactic(auto, unfolding(octets::specs::Bytes::bytes, crate::specs::Message::header_start, crate::specs::Message::crc_of))]
 fn crc_for(kind: u8, payload: &[u8]) -> u32
     requires { length payload.now ≤ longest_payload }
     ensures { result ≡ crc_of (rot_message_with kind payload.now) }
 {
-    let n = payload.len();
-    let start = [limits::VERSION_1, kind, (n % 256) as u8, (n / 256) as u8];
+    let [low, high] = (payload.len() as u16).to_le_bytes();
+    let start = [limits::VERSION_1, kind, low, high];
     crc::crc_of_parts(&start, payload)
 }

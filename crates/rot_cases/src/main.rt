@@ -5,24 +5,15 @@
 mod print;
 mod run;
 
+use run::Case;
 use std::io;
-use std::io::Read;
-use text_lines::streams;
-
-fn main(rt: HostRuntime) -> io::Result<()> {
-    let mut line = [0u8; streams::LINE_ROOM];
-    run_all(&rt, &mut rt.stdin(), &mut line)
-}
+use text_lines::streams::Lines;
 
 // Every line of the input, up to its end.
-fn run_all<R: Read>(rt: &impl Print, input: &mut R, line: &mut [u8]) -> io::Result<()> {
-    let mut now = run::fresh();
-    for _ in 0..streams::MOST_LINES {
-        let n = streams::read_line(input, line)?;
-        if n == 0 {
-            return Ok(());
-        }
-        now = run::command(rt, &line[0..n], now)?;
+fn main(rt: HostRuntime) -> io::Result<()> {
+    let mut case = Case::fresh();
+    for line in Lines::new(&mut rt.stdin()) {
+        case.command(&rt, line?.text())?;
     }
     Ok(())
 }

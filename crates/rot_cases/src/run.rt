@@ -3,7 +3,8 @@
 use crate::print;
 use rot::{crc, reader, writer};
 use std::io;
-use text_lines::{fields, pieces, streams};
+use text_lines::buffers::Buffer;
+use text_lines::{fields, streams};
 
 const PIECE_ROOM: usize = 1024;
 
@@ -11,113 +12,72 @@ const OUT_ROOM: usize = 600;
 
 const OUT_FILL: u8 = 0xee;
 
-// The piece and how many bytes it has, the lent output and how many bytes the last call wrote.
+// The piece, and the lent output, of which the last call wrote the first bytes.
 #[derive(Clone, Copy)]
 pub(crate) struct Case {
-    pub piece: [u8; PIECE_ROOM],
-    pub piece_count: usize,
-    pub out: [u8; OUT_ROOM],
-    pub written: usize,
+    piece: Buffer<PIECE_ROOM>,
+    out: Buffer<OUT_ROOM>,
 }
 
-// An output of known contents, and no piece.
-pub(crate) fn fresh() -> Case {
-    Case {
-        piece: [0; PIECE_ROOM],
-        piece_count: 0,
-        out: [OUT_FILL; OUT_ROOM],
-        written: 0,
-    }
-}
-
-// One line.
-pub(crate) fn command(rt: &impl Print, line: &[u8], now: Case) -> io::Result<Case> {
-    let key = fields::key(line);
-    match key {
-        b'=' => begin(rt, line),
-        b'+' | b'*' => Ok(add(line, now)),
-        b'r' => read(rt, line, now),
-        b'w' => write(rt, line, now),
-        b'o' => Ok(take_written(now)),
-        _ => {
-            look(rt, key, now)?;
-            Ok(now)
+impl Case {
+    // An output of known contents, and no piece.
+    pub(crate) fn fresh() -> Case {
+        Case {
+            piece: Buffer::filled(0, 0),
+            out: Buffer::filled(OUT_FILL, 0),
         }
     }
-}
 
-// A fresh case, with its name.
-fn begin(rt: &impl Print, line: &[u8]) -> io::Result<Case> {
-    streams::name(rt, line)?;
-    Ok(fresh())
-}
+    // One line.
+    pub(crate) fn command(&mut self, rt: &impl Print, line: &[u8]) -> io::Result<()> {
+        match fields::key(line) {
+            b'=' => self.begin(rt, line),
+            b'+' | b'*' => {
+                self.piece.add(line);
+                Ok(())
+            }
+            b'r' => self.read(rt, fields::count(line, 1)),
+            b'w' => self.write(rt, line),
+            b'o' => {
+                self.take_written();
+                Ok(())
+            }
+            b'k' => streams::hex(rt, u64::from(crc::crc(self.piece.used())), 8),
+            b'.' => streams::word(rt, b"\n"),
+            _ => Ok(()),
+        }
+    }
 
-fn add(line: &[u8], now: Case) -> Case {
-    let mut next = now;
-    let mut piece = now.piece;
-    next.piece_count = pieces::add(line, &mut piece, now.piece_count);
-    next.piece = piece;
-    next
-}
+    // A fresh case, with its name.
+    fn begin(&mut self, rt: &impl Print, line: &[u8]) -> io::Result<()> {
+        streams::name(rt, line)?;
+        *self = Case::fresh();
+        Ok(())
+    }
 
-// Reads the piece with the line's first field as room.
-fn read(rt: &impl Print, line: &[u8], now: Case) -> io::Result<Case> {
-    let mut next = now;
-    let piece = now.piece;
-    let mut out = now.out;
-    let input = octets::part(&piece, 0, now.piece_count);
-    next.written = read_into(rt, input, &mut out, fields::count(line, 1))?;
-    streams::bytes(rt, reader::payload(input))?;
-    streams::digest(rt, &out)?;
-    next.out = out;
-    Ok(next)
-}
+    // Reads the piece with the first bytes of the output as room.
+    fn read(&mut self, rt: &impl Print, room: usize) -> io::Result<()> {
+        let Case { piece, out } = self;
+        let answer = reader::read(piece.used(), &mut out.bytes[..room.min(OUT_ROOM)]);
+        out.count = print::reading(rt, answer)?;
+        streams::bytes(rt, reader::payload(piece.used()))?;
+        streams::digest(rt, &out.bytes)
+    }
 
-// With the first bytes of the output as room; how many bytes the echo's answer has.
-fn read_into(rt: &impl Print, input: &[u8], out: &mut [u8], room: usize) -> io::Result<usize> {
-    let end = octets::min(room, out.len());
-    print::reading(rt, reader::read(input, &mut out[0..end]))
-}
+    // Writes a message with the piece as its payload: the type is the line's first field, the room its second.
+    fn write(&mut self, rt: &impl Print, line: &[u8]) -> io::Result<()> {
+        let Case { piece, out } = self;
+        let kind = fields::hex_u8(line, 1);
+        let room = fields::count(line, 2).min(OUT_ROOM);
+        let answer = writer::write(kind, piece.used(), &mut out.bytes[..room]);
+        out.count = print::writing(rt, answer)?;
+        streams::digest(rt, &out.bytes)
+    }
 
-// Writes a message with the piece as its payload, by the line's fields.
-fn write(rt: &impl Print, line: &[u8], now: Case) -> io::Result<Case> {
-    let mut next = now;
-    let piece = now.piece;
-    let mut out = now.out;
-    let payload = octets::part(&piece, 0, now.piece_count);
-    next.written = write_into(rt, line, payload, &mut out)?;
-    streams::digest(rt, &out)?;
-    next.out = out;
-    Ok(next)
-}
-
-// The type is the line's first field, the room its second; how many bytes are written.
-fn write_into(rt: &impl Print, line: &[u8], payload: &[u8], out: &mut [u8]) -> io::Result<usize> {
-    let kind = fields::hex_u8(line, 1);
-    let end = octets::min(fields::count(line, 2), out.len());
-    print::writing(rt, writer::write(kind, payload, &mut out[0..end]))
-}
-
-// Makes what was written the piece.
-fn take_written(now: Case) -> Case {
-    let mut next = now;
-    let mut piece = now.piece;
-    octets::copy(&now.out, 0, now.written, &mut piece, 0);
-    next.piece = piece;
-    next.piece_count = now.written;
-    next
-}
-
-// A command that changes nothing.
-fn look(rt: &impl Print, key: u8, now: Case) -> io::Result<()> {
-    let piece = now.piece;
-    match key {
-        b'k' => streams::hex(
-            rt,
-            crc::crc(octets::part(&piece, 0, now.piece_count)) as u64,
-            8,
-        ),
-        b'.' => streams::word(rt, b"\n"),
-        _ => Ok(()),
+    // Makes what was written the piece.
+    fn take_written(&mut self) {
+        let Case { piece, out } = self;
+        piece.put(out.used(), 0);
+        piece.count = out.count;
     }
 }

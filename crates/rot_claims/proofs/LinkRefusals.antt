@@ -12,7 +12,7 @@ use lib.Dec.{eqb, ltb, eqb-suc-zero}
 use lib.ListN.{length, drop}
 use Rattle.octets.proofs.Overlay.{overlay-start}
 use Rattle.octets.specs.Bytes.{number, overlay}
-use Rattle.octets.proofs.Conditions.{cond-by, cond_both, zero_one, cond-not}
+use Rattle.octets.proofs.Conditions.{cond-by, cond_both, cond-not}
 use Rattle.octets.specs.TableTests.{TableTest, table_test, first_failing}
 use Rattle.rot.specs.Limits.{longest_payload}
 use Rattle.rot.specs.Message.{echo_request, echo_response, listed_type, RotMessage, rot_message, echoed}
@@ -35,13 +35,13 @@ module _ (n : ℕ) where
   same k out = (λ e. cc, λ e. cc)
 
   sent : (k : ℕ) (out : List ℕ) → Numbered (rot_outcome (wrote k) out) none
-  sent k out = (λ e. absurd (zero_one cc), λ e. absurd (zero_one cc))
+  sent k out = (λ e. cc, λ e. cc)
 
   handed-none : (t k : ℕ) (out : List ℕ) → Numbered (rot_outcome (handed t k) out) none
-  handed-none t k out = (λ e. absurd (zero_one cc), λ e. absurd (zero_one cc))
+  handed-none t k out = (λ e. cc, λ e. cc)
 
   nothing-none : (out : List ℕ) → Numbered (rot_outcome nothing out) none
-  nothing-none out = (λ e. absurd (zero_one cc), λ e. absurd (zero_one cc))
+  nothing-none out = (λ e. cc, λ e. cc)
 
   -- bytes that go out or do not fit
   sending-numbered : (bs out : List ℕ) → Numbered (rot_write_into bs out) (cond (ltb (length out) (length bs)) (some 8) none)
@@ -108,7 +108,7 @@ module _ (out : List ℕ) (n : ℕ) where
 
   sending-held : (bs : List ℕ) → Held (rot_write_into bs out)
   unfolding rot_write_into
-  sending-held bs = cond-by Held (ltb (length out) (length bs)) _ _ (λ _ _. refl) (λ _ e. absurd (zero_one cc))
+  sending-held bs = cond-by Held (ltb (length out) (length bs)) _ _ (λ _ _. refl) (λ _ e. cc)
 
   answering-held : (j : Reading.RotVerdict) → Held (answer_to j out)
   unfolding answer_to serve_message
@@ -146,14 +146,14 @@ module _ (m : RotMessage) (out : List ℕ) where
   sends : Writes (rot_write_into (rot_message m) out) (cond (ltb (length out) (length (rot_message m))) (some 8) none)
   unfolding rot_write_into
   sends =
-      cond_both Writes (ltb (length out) (length (rot_message m))) (λ _ e. absurd (zero_one cc))
+      cond_both Writes (ltb (length out) (length (rot_message m))) (λ _ e. cc)
       (λ _ _. rw (overlay-start (rot_message m) out))
 
 pub link_writer_writes : LinkWriterWrites
 unfolding rot_write_promise first_failing
 link_writer_writes m out =
-    cond_both (Writes m out) (ltb longest_payload (length m.payload)) (λ _ e. absurd (zero_one cc))
-    (λ _. cond-not (Writes m out) (listed_type m.type) (sends m out) (λ e. absurd (zero_one cc)))
+    cond_both (Writes m out) (ltb longest_payload (length m.payload)) (λ _ e. cc)
+    (λ _. cond-not (Writes m out) (listed_type m.type) (sends m out) (λ e. cc))
 
 -- ---- the table
 

@@ -5,6 +5,7 @@ use mathlib.Core.Bool.{Bool, true, false}
 use mathlib.Core.List.{List, [], ◌∷◌, ◌++◌}
 use mathlib.Core.Option.{some}
 use Prim.Native.Nat.{ℕ, suc, ◌+◌, ◌-◌, ◌≤◌, ◌<◌}
+use native.Mathlib.Numerals.{add-one}
 use native.Mathlib.Omega.{arith}
 use lib.Dec.{eqb}
 use lib.ListN.{length, take, replicate, length-append, length-replicate}
@@ -17,7 +18,7 @@ use Rattle.supervisor.specs.Layout.{setting_offset, setting_value_offset, settin
 use Rattle.supervisor.specs.Valid.{valid_settings}
 use Rattle.supervisor.proofs.OffsetLaws.{offset-within}
 use Rattle.supervisor.proofs.ValidLaws.{settings-valid}
-use Rattle.saving.specs.Saving.{saved_count, end_mark, saved_record, image_from, saved}
+use Rattle.saving.specs.Saving.{highest_saved, saved_count, end_mark, saved_record, image_from, saved}
 use Rattle.saving.specs.Calls.{saved_record_bytes, saved_records_from, image_bytes, records_size, longest_image}
 use Rattle.saving.proofs.StoreLaws.{length-record}
 
@@ -67,35 +68,34 @@ record-most s key valid k = by (eqb (setting_held s (setting_offset key)) 1) ref
 
 -- ---- one record after the other
 
-module _ (s : List ℕ) (i : ℕ) (h : i < saved_count) where
-  pub records-on : saved_records_from s (saved_count - i) (first_setting + i)
-      ≡ saved_record_bytes s (first_setting + i) ++ saved_records_from s (saved_count - (i + 1)) (first_setting + (i + 1))
+-- the records from a key on, then the end mark
+abbrev pub records_from : List ℕ → ℕ → List ℕ
+records_from s key = saved_records_from s (suc highest_saved - key) key
+
+module _ (s : List ℕ) (key : ℕ) (h : key ≤ highest_saved) where
+  records-on : records_from s key ≡ saved_record_bytes s key ++ records_from s (key + 1)
   unfolding saved_records_from
   records-on =
-      let e : saved_count - i ≡ suc (saved_count - (i + 1)) = omega arith in
-      let f : first_setting + (i + 1) ≡ suc (first_setting + i) = omega arith in
-      rw (e, f)
+      let e : suc highest_saved - key ≡ suc (suc highest_saved - (key + 1)) = omega arith in
+      rw (e, add-one)
 
-  pub length-on : length (saved_records_from s (saved_count - i) (first_setting + i))
-      ≡ length (saved_record_bytes s (first_setting + i)) + length (saved_records_from s (saved_count - (i + 1)) (first_setting + (i + 1)))
+  pub length-on : length (records_from s key) ≡ length (saved_record_bytes s key) + length (records_from s (key + 1))
   length-on = rw (records-on, length-append)
 
   pub records-put : (at : ℕ) (out : List ℕ) {t : List ℕ} {there : ℕ} → at ≤ length out
-      → there ≡ at + length (saved_record_bytes s (first_setting + i)) → t ≡ overlay at (saved_record_bytes s (first_setting + i)) out
-      → overlay there (saved_records_from s (saved_count - (i + 1)) (first_setting + (i + 1))) t
-      ≡ overlay at (saved_records_from s (saved_count - i) (first_setting + i)) out
-  records-put at out l e f = rw (e, f, records-on) (overlay-next at (saved_record_bytes s (first_setting + i)) _ out l)
+      → there ≡ at + length (saved_record_bytes s key) → t ≡ overlay at (saved_record_bytes s key) out
+      → overlay there (records_from s (key + 1)) t ≡ overlay at (records_from s key) out
+  records-put at out l e f = rw (e, f, records-on) (overlay-next at (saved_record_bytes s key) _ out l)
 
-pub records-end : (s : List ℕ) (i : ℕ) → saved_count ≤ i → saved_records_from s (saved_count - i) (first_setting + i) ≡ end_mark
+pub records-end : (s : List ℕ) (key : ℕ) → highest_saved < key → records_from s key ≡ end_mark
 unfolding saved_records_from
-records-end s i h = let e : saved_count - i ≡ 0 = omega arith in rw e
+records-end s key h = let e : suc highest_saved - key ≡ 0 = omega arith in rw e
 
 -- the end mark, where no record is left
-pub end-put : (s out : List ℕ) (i at : ℕ) → saved_count ≤ i
-    → at + length (saved_records_from s (saved_count - i) (first_setting + i)) ≤ length out
-    → copied end_mark 0 2 out at ≡ overlay at (saved_records_from s (saved_count - i) (first_setting + i)) out
-end-put s out i at h l =
-    let e = records-end s i h in
+pub end-put : (s out : List ℕ) (key at : ℕ) → highest_saved < key → at + length (records_from s key) ≤ length out
+    → copied end_mark 0 2 out at ≡ overlay at (records_from s key) out
+end-put s out key at h l =
+    let e = records-end s key h in
     rw e (copied-fits end_mark 0 2 out at (omega arith) (omega (arith, ap length e)))
 
 -- no image of valid settings is longer

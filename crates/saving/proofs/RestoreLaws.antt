@@ -4,16 +4,15 @@ use mathlib.Core.Path.{◌≡◌, refl, sym, ap, ◌∙◌}
 use mathlib.Core.Bool.{true, false}
 use mathlib.Core.List.{List}
 use mathlib.Core.Option.{none, some}
-use Prim.Native.Nat.{ℕ, ◌+◌, ◌≤◌, ◌<◌}
-use native.Mathlib.Numerals.{add-one}
+use Prim.Native.Nat.{ℕ, suc, ◌+◌, ◌-◌, ◌≤◌, ◌<◌}
 use native.Mathlib.Omega.{arith}
 use lib.ListN.{length}
 use Rattle.octets.specs.Bytes.{bytes, overlay, same_run}
 use Rattle.supervisor.specs.Limits.{first_setting, SettingsKey}
 use Rattle.supervisor.specs.Layout.{setting_offset, setting_value_offset, settings_length}
 use Rattle.supervisor.proofs.OffsetLaws.{offset-within}
-use Rattle.saving.specs.Saving.{saved_count, end_mark, ImageRead, fault, good, to, image_step, saved_length_at, saved_entry_at}
-use Rattle.saving.specs.Saving.{read_image_from, read_image}
+use Rattle.saving.specs.Saving.{highest_saved, saved_count, end_mark, ImageRead, fault, good, to, image_step, saved_length_at}
+use Rattle.saving.specs.Saving.{saved_entry_at, read_image_from, read_image}
 use Rattle.saving.specs.Calls.{setting_head, RestoreOutcome, done, faulty, cleared, put_entry, put_entries, restore_outcome_by, fault_in}
 use Rattle.saving.specs.Calls.{entries_in, WholeRecord}
 use Rattle.saving.proofs.StepLaws.{passed}
@@ -24,13 +23,16 @@ use Rattle.saving.proofs.ReadLaws.{read_at, entries-ahead, further, fault-behind
 pub saved-key : (i : ℕ) → i < saved_count → SettingsKey (first_setting + i)
 saved-key i h = record { lower = omega arith; upper = omega arith }
 
-pub head-room : (i : ℕ) → i < saved_count → setting_offset (first_setting + i) + setting_value_offset ≤ settings_length
-head-room i h = omega (arith, offset-within (first_setting + i) (saved-key i h))
+pub head-room : (key : ℕ) → first_setting ≤ key → key ≤ highest_saved → setting_offset key + setting_value_offset ≤ settings_length
+head-room key l h = omega (arith, offset-within key (record { lower = l; upper = omega arith }))
 
-pub cleared_more : (i : ℕ) (s : List ℕ) {t u : List ℕ} {at : ℕ} → t ≡ cleared i s → at ≡ setting_offset (first_setting + i)
-    → u ≡ overlay at (setting_head 0 0 0) t → u ≡ cleared (i + 1) s
+pub cleared_more : (key : ℕ) (s : List ℕ) {t u : List ℕ} {at : ℕ} → first_setting ≤ key → t ≡ cleared (key - first_setting) s
+    → at ≡ setting_offset key → u ≡ overlay at (setting_head 0 0 0) t → u ≡ cleared (key + 1 - first_setting) s
 unfolding cleared bytes
-cleared_more i s e f g = rw (g, f, e, add-one)
+cleared_more key s l e f g =
+    let p : key + 1 - first_setting ≡ suc (key - first_setting) = omega arith in
+    let q : first_setting + (key - first_setting) ≡ key = omega arith in
+    rw (p, q, g, f, e)
 
 -- ---- the records at their offsets
 

@@ -1,13 +1,13 @@
 -- What stands at an offset of an image, by each test that it passes or fails.
 -- Assumes nothing.
 use mathlib.Core.Path.{◌≡◌, refl, sym, ◌∙◌}
-use mathlib.Core.Bool.{Bool, true, false, cond, not, ◌&&◌, and-eq-true_iff}
+use mathlib.Core.Bool.{Bool, true, false, not, ◌&&◌, and-eq-true_iff}
 use mathlib.Core.List.{List, [], ◌∷◌}
 use Prim.Native.Nat.{ℕ, ◌+◌, ◌≤◌, ◌<◌}
 use native.Mathlib.Omega.{arith}
 use lib.Dec.{leb, ltb, eqb}
 use lib.ListN.{length}
-use borrow.Author.Tests.{not-true, not-false, ltb-true, ltb-false, leb-true, eqb-true, le-ltb, lt-ltb, le-leb, lt-leb, eq-eqb, ne_eqb}
+use borrow.Author.Tests.{not-false, ltb-true, ltb-false, leb-true, eqb-true, le-ltb, le-leb, eq-eqb}
 use Rattle.octets.specs.Bytes.{run, number_at, same_run}
 use Rattle.octets.proofs.Conditions.{cond-by}
 use Rattle.octets.proofs.Equal.{equal-true}
@@ -22,9 +22,9 @@ pub mark-same : (image : List ℕ) (at a b : ℕ) → at + 2 ≤ length image �
 unfolding same_run
 mark-same image at a b h = rw (le-leb (at + 2) (length image) h)
 
--- ---- keys
+pub ruleset marks = (mark-same)
 
-pub ruleset cases = (lt-leb, le-leb)
+-- ---- keys
 
 pub key-follows : (before key : ℕ) → follows before key ≡ true → (first_setting ≤ key) × (key ≤ highest_saved) × (before < key)
 unfolding follows
@@ -35,111 +35,54 @@ key-follows before key e =
 
 -- ---- a record behind its key
 
--- a field that ends no earlier is not complete either
-complete-both : (image : List ℕ) (a b : ℕ) (s : ImageStep) → a ≤ b → complete image a (complete image b s) ≡ complete image b s
-complete-both image a b s h =
-    cond-by (λ r. r ≡ complete image b s) (ltb (length image) a) _ _
-    (λ e. rw (lt-ltb (length image) b (omega (arith, ltb-true (length image) a e)))) (λ _. refl)
-
-module _ (image : List ℕ) (at : ℕ) where
-  pub head-cut : length image < at + 9 → bad 34 (length image) ≡ record_step image at
+module _ (image : List ℕ) (at n key most : ℕ) (e : n ≡ saved_length_at image at) (k : key ≡ saved_key_at image at)
+    (m : most ≡ longest_setting key) (head : at + 9 ≤ length image) (short : n ≤ most) (sum given : ℕ)
+    (whole : at + (11 + n) ≤ length image) (s : sum ≡ checksum (run at (9 + n) image)) (g : given ≡ number_at 2 image (at + (9 + n))) where
+  pub record-good : given ≡ sum → to key (at + (11 + n)) ≡ record_step image at
   unfolding record_step
-  head-cut h = sym (complete-both image (at + 7) (at + 9) _ (omega arith) ∙ rw (lt-ltb (length image) (at + 9) h))
-
-  module _ (n key most : ℕ) (e : n ≡ saved_length_at image at) (k : key ≡ saved_key_at image at) (m : most ≡ longest_setting key)
-      (head : at + 9 ≤ length image) where
-    pub value-long : most < n → bad 32 (at + 7) ≡ record_step image at
-    unfolding record_step
-    value-long h =
-        rw (le-ltb (length image) (at + 7) (omega arith), le-ltb (length image) (at + 9) head, ← k, ← e, ← m, lt-ltb most n h)
-
-    module _ (short : n ≤ most) where
-      pub value-cut : length image < at + (11 + n) → bad 34 (length image) ≡ record_step image at
-      unfolding record_step
-      value-cut h =
-          rw (le-ltb (length image) (at + 7) (omega arith), le-ltb (length image) (at + 9) head, ← k, ← e, ← m, le-ltb most n short)
-          (sym (complete-both image (at + (9 + n)) (at + (11 + n)) _ (omega arith) ∙ rw (lt-ltb (length image) (at + (11 + n)) h)))
-
-      module _ (sum given : ℕ) (whole : at + (11 + n) ≤ length image) (s : sum ≡ checksum (run at (9 + n) image))
-          (g : given ≡ number_at 2 image (at + (9 + n))) where
-        pub sum-wrong : (given ≡ sum → ⊥) → bad 33 (at + (9 + n)) ≡ record_step image at
-        unfolding record_step
-        sum-wrong h =
-            rw (
-              le-ltb (length image) (at + 7) (omega arith),
-              le-ltb (length image) (at + 9) head,
-              ← k,
-              ← e,
-              ← m,
-              ← s,
-              ← g,
-              le-ltb most n short,
-              le-ltb (length image) (at + (9 + n)) (omega arith),
-              le-ltb (length image) (at + (11 + n)) whole,
-              ne_eqb given sum h,
-            )
-
-        pub record-good : given ≡ sum → to key (at + (11 + n)) ≡ record_step image at
-        unfolding record_step
-        record-good h =
-            rw (
-              le-ltb (length image) (at + 7) (omega arith),
-              le-ltb (length image) (at + 9) head,
-              ← k,
-              ← e,
-              ← m,
-              ← s,
-              ← g,
-              le-ltb most n short,
-              le-ltb (length image) (at + (9 + n)) (omega arith),
-              le-ltb (length image) (at + (11 + n)) whole,
-              eq-eqb given sum h,
-            )
+  record-good h =
+      rw (
+        le-ltb (length image) (at + 7) (omega arith),
+        le-ltb (length image) (at + 9) head,
+        ← k,
+        ← e,
+        ← m,
+        ← s,
+        ← g,
+        le-ltb most n short,
+        le-ltb (length image) (at + (9 + n)) (omega arith),
+        le-ltb (length image) (at + (11 + n)) whole,
+        eq-eqb given sum h,
+      )
 
 -- ---- the end, or a record
 
-module _ (image : List ℕ) (before at : ℕ) where
-  pub mark-cut : length image < at + 2 → bad 34 (length image) ≡ image_step image before at
+module _ (image : List ℕ) (before at : ℕ) {b : Bool} (two : at + 2 ≤ length image) (e : b ≡ same_run image at end_mark 0 2) where
+  is-end : {t : Bool} → b ≡ t → marked end_mark image at ≡ t
+  is-end h = sym (e ∙ mark-same image at 0x4b 0x45 two) ∙ h
+
+  pub end-good : b ≡ true → length image ≤ at + 2 → ended ≡ image_step image before at
   unfolding image_step
-  mark-cut h = rw (lt-ltb (length image) (at + 2) h)
+  end-good h l = rw (le-ltb (length image) (at + 2) two, is-end h, le-ltb (at + 2) (length image) l)
 
-  module _ {b : Bool} (two : at + 2 ≤ length image) (e : b ≡ same_run image at end_mark 0 2) where
-    is-end : {t : Bool} → b ≡ t → marked end_mark image at ≡ t
-    is-end h = sym (e ∙ mark-same image at 0x4b 0x45 two) ∙ h
+  module _ {r : Bool} (more : b ≡ false) (f : r ≡ same_run image at record_mark 0 2) (mark : not r ≡ false) {t : Bool} {key : ℕ}
+      (three : at + 3 ≤ length image) (k : key ≡ saved_key_at image at) (g : t ≡ follows before key) where
+    is-record : marked record_mark image at ≡ r
+    is-record = sym (f ∙ mark-same image at 0x4b 0x56 two)
 
-    pub bytes-behind : b ≡ true → at + 2 < length image → bad 35 (at + 2) ≡ image_step image before at
+    pub key-good : not t ≡ false → record_step image at ≡ image_step image before at
     unfolding image_step
-    bytes-behind h l = rw (le-ltb (length image) (at + 2) two, is-end h, lt-ltb (at + 2) (length image) l)
-
-    pub end-good : b ≡ true → length image ≤ at + 2 → ended ≡ image_step image before at
-    unfolding image_step
-    end-good h l = rw (le-ltb (length image) (at + 2) two, is-end h, le-ltb (at + 2) (length image) l)
-
-    module _ {r : Bool} (more : b ≡ false) (f : r ≡ same_run image at record_mark 0 2) where
-      is-record : marked record_mark image at ≡ r
-      is-record = sym (f ∙ mark-same image at 0x4b 0x56 two)
-
-      pub mark-wrong : not r ≡ true → bad 30 at ≡ image_step image before at
-      unfolding image_step
-      mark-wrong h = rw (le-ltb (length image) (at + 2) two, is-end more, is-record, not-true r h)
-
-      module _ (mark : not r ≡ false) where
-        pub key-cut : length image < at + 3 → bad 34 (length image) ≡ image_step image before at
-        unfolding image_step
-        key-cut l = rw (le-ltb (length image) (at + 2) two, is-end more, is-record, not-false r mark, lt-ltb (length image) (at + 3) l)
-
-        module _ {t : Bool} {key : ℕ} (three : at + 3 ≤ length image) (k : key ≡ saved_key_at image at) (g : t ≡ follows before key) where
-          to-key : image_step image before at ≡ cond t (record_step image at) (bad 31 (at + 2))
-          unfolding image_step
-          to-key =
-              rw
-              (le-ltb (length image) (at + 2) two, is-end more, is-record, not-false r mark, le-ltb (length image) (at + 3) three, ← k, ← g)
-
-          pub key-wrong : not t ≡ true → bad 31 (at + 2) ≡ image_step image before at
-          key-wrong h = rw (to-key, not-true t h)
-
-          pub key-good : not t ≡ false → record_step image at ≡ image_step image before at
-          key-good h = rw (to-key, not-false t h)
+    key-good h =
+        rw (
+          le-ltb (length image) (at + 2) two,
+          is-end more,
+          is-record,
+          not-false r mark,
+          le-ltb (length image) (at + 3) three,
+          ← k,
+          ← g,
+          not-false t h,
+        )
 
 -- ---- what each answer says of the bytes
 

@@ -1,21 +1,21 @@
 -- What saving and restoring answer and leave in the bytes that they are lent (document 02, item 11).
 -- Assumes nothing: these are definitions.
 use Rattle.std.specs.Prelude.{cond, List, [], ◌∷◌, ◌++◌, ℕ, zero, suc, ◌+◌, ◌≤◌, ltb, eqb, length, take, replicate}
+use Rattle.std.specs.Prelude.{⊤, Result, Ok, Err, None, Some}
+use Rattle.std.specs.declared.option.Option as code
 use Rattle.std.proofs.Math.Option.{Option, none, some}
+use Rattle.refusals.specs.Refusals.{table_number}
+use Rattle.refusals.specs.declared.Refusal.{Refusal}
 use Rattle.octets.specs.Bytes.{bytes, run, overlay}
 use Rattle.supervisor.specs.Limits
 use Rattle.supervisor.specs.Layout
 use Rattle.supervisor.specs.Valid.{valid_settings}
 use Rattle.saving.specs.Saving
 use Rattle.saving.specs.Saving.{SavedEntry, ImageRead, fault, good, ImageStep, bad, ended, to}
-use Rattle.saving.specs.declared.save.Saved.{Saved}
-use Rattle.saving.specs.declared.save.Saved.TheVariants as saved
-use Rattle.saving.specs.declared.restore.Restored.{Restored}
-use Rattle.saving.specs.declared.restore.Restored.TheVariants as restored
-use Rattle.saving.specs.declared.restore.Next.{Next}
-use Rattle.saving.specs.declared.restore.Next.TheVariants as next
-use Rattle.saving.specs.declared.restore.Found.{Found}
-use Rattle.saving.specs.declared.restore.Found.TheVariants as found
+use Rattle.saving.specs.declared.restore.RestoreError.{RestoreError}
+use Rattle.saving.specs.declared.restore.RestoreError.TheVariants as restore-error
+use Rattle.saving.specs.declared.restore.Fault.{Fault}
+use Rattle.saving.specs.declared.restore.Fault.TheVariants as the-fault
 
 -- ---- Save
 
@@ -52,16 +52,15 @@ pub data SaveReport : Type 0 where
   written : ℕ → SaveReport
   refused : ℕ → SaveReport
 
-unfoldable pub save_report : Saved → SaveReport
-save_report (saved.Done n) = written n
-save_report saved.Refused = refused 12
-save_report saved.NoRoom = refused 8
+abbrev pub save_report : Result ℕ Refusal → SaveReport
+save_report (Ok n) = written n
+save_report (Err why) = refused (table_number why)
 
 pub record SaveOutcome : Type 0 where
   pub report : SaveReport
   pub room : List ℕ
 
-abbrev pub save_outcome : Saved → List ℕ → SaveOutcome
+abbrev pub save_outcome : Result ℕ Refusal → List ℕ → SaveOutcome
 save_outcome r room = record { report = save_report r; room = room }
 
 -- tests 12, then 8; bytes past the image stay
@@ -80,16 +79,25 @@ pub data RestoreReport : Type 0 where
   refused : ℕ → RestoreReport
   faulty : ℕ → ℕ → RestoreReport
 
-unfoldable pub restore_report : Restored → RestoreReport
-restore_report restored.Done = done
-restore_report restored.Refused = RestoreReport.refused 12
-restore_report (restored.Fault n at) = faulty n at
+-- the number of a fault
+abbrev pub fault_number : Fault → ℕ
+fault_number the-fault.BadMark = 30
+fault_number the-fault.BadKey = 31
+fault_number the-fault.TooLong = 32
+fault_number the-fault.BadChecksum = 33
+fault_number the-fault.CutShort = 34
+fault_number the-fault.BytesAfter = 35
+
+abbrev pub restore_report : Result ⊤ RestoreError → RestoreReport
+restore_report (Ok _) = done
+restore_report (Err restore-error.Refused) = RestoreReport.refused 12
+restore_report (Err (restore-error.Fault why at)) = faulty (fault_number why) at
 
 pub record RestoreOutcome : Type 0 where
   pub report : RestoreReport
   pub settings : List ℕ
 
-abbrev pub restore_outcome : Restored → List ℕ → RestoreOutcome
+abbrev pub restore_outcome : Result ⊤ RestoreError → List ℕ → RestoreOutcome
 restore_outcome r s = record { report = restore_report r; settings = s }
 
 -- the first n saved settings without a value, with edition and length 0; the bytes of their values stay
@@ -116,10 +124,14 @@ restore_promise s image =
 
 -- ---- The parts of restoring
 
-unfoldable pub image_step_of : Next → ImageStep
-image_step_of (next.To key at) = to key at
-image_step_of next.End = ended
-image_step_of (next.Bad n at) = bad n at
+abbrev pub image_step_of : Result (code.Option (ℕ × ℕ)) (Fault × ℕ) → ImageStep
+image_step_of (Ok (Some (key, at))) = to key at
+image_step_of (Ok None) = ended
+image_step_of (Err (why, at)) = bad (fault_number why) at
+
+abbrev pub record_step_of : Result (ℕ × ℕ) (Fault × ℕ) → ImageStep
+record_step_of (Ok (key, at)) = to key at
+record_step_of (Err (why, at)) = bad (fault_number why) at
 
 -- the fault that reading found, and the records: none where there is a fault
 abbrev pub fault_in : ImageRead → Option (ℕ × ℕ)
@@ -130,9 +142,9 @@ abbrev pub entries_in : ImageRead → List SavedEntry
 entries_in (fault n at) = []
 entries_in (good es) = es
 
-unfoldable pub found_of : Found → Option (ℕ × ℕ)
-found_of found.Good = none
-found_of (found.Bad n at) = some (n, at)
+abbrev pub found_of : Result ⊤ (Fault × ℕ) → Option (ℕ × ℕ)
+found_of (Ok _) = none
+found_of (Err (why, at)) = some (fault_number why, at)
 
 -- what stands before a setting's value: whether there is one, the edition and the length
 abbrev pub setting_head : ℕ → ℕ → ℕ → List ℕ

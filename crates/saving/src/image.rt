@@ -10,8 +10,6 @@ use supervisor::layout;
 // The saved settings are those from the first to this one.
 pub(crate) const HIGHEST_SAVED: u8 = 5;
 
-pub(crate) const SAVED_COUNT: u8 = HIGHEST_SAVED + 1 - layout::FIRST_SETTING;
-
 // A record: mark, key u8, edition u32, length u16, value, checksum u16.
 pub(crate) const MARK_LENGTH: usize = 2;
 

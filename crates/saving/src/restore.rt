@@ -5,154 +5,139 @@ ghost use Rattle.std.proofs.Math.Option.{none};
 ghost use Rattle.octets.specs.Bytes.{overlay};
 ghost use Rattle.supervisor.specs.Layout.{settings_length, setting_value_offset};
 ghost use Rattle.saving.specs.Saving.{saved_count, saved_length_at, saved_entry_at, follows, record_step, image_step, read_image};
-ghost use Rattle.saving.specs.Calls.{setting_head, cleared, put_entry, put_entries, restore_outcome, restore_promise, image_step_of};
-ghost use Rattle.saving.specs.Calls.{found_of, fault_in, entries_in, WholeRecord};
+ghost use Rattle.saving.specs.Calls.{setting_head, cleared, put_entry, put_entries, restore_outcome, restore_promise};
+ghost use Rattle.saving.specs.Calls.{image_step_of, record_step_of, fault_number, found_of, fault_in, entries_in, WholeRecord};
 
 use crate::image;
 use supervisor::{layout, valid};
 
-// The faults of an image.
-const BAD_MARK: u8 = 30;
+// What is wrong with an image.
+#[derive(Clone, Copy, Debug, PartialEq, Eq)]
+pub enum Fault {
+    BadMark,
+    BadKey,
+    TooLong,
+    BadChecksum,
+    CutShort,
+    BytesAfter,
+}
 
-const BAD_KEY: u8 = 31;
+impl Fault {
+    // The number of a fault.
+    pub fn number(self) -> u32
+        ensures { result ≡ fault_number self }
+    {
+        match self {
+            Fault::BadMark => 30,
+            Fault::BadKey => 31,
+            Fault::TooLong => 32,
+            Fault::BadChecksum => 33,
+            Fault::CutShort => 34,
+            Fault::BytesAfter => 35,
+        }
+    }
+}
 
-const TOO_LONG: u8 = 32;
-
-const BAD_CHECKSUM: u8 = 33;
-
-const CUT_SHORT: u8 = 34;
-
-const BYTES_AFTER: u8 = 35;
-
-#[derive(Clone, Copy)]
-pub enum Restored {
-    Done,
+// Why nothing was restored: the settings are those of no state, or the image's first fault and its offset.
+#[derive(Clone, Copy, Debug, PartialEq, Eq)]
+pub enum RestoreError {
     Refused,
-    Fault(u8, usize),
-}
-
-// What stands at an offset of an image:
-// - a record, its key and the offset behind it
-// - the end
-// - a fault, its number and offset
-#[derive(Drop)]
-enum Next {
-    To(u8, usize),
-    End,
-    Bad(u8, usize),
-}
-
-// The first fault of an image.
-#[derive(Drop)]
-enum Found {
-    Good,
-    Bad(u8, usize),
+    Fault(Fault, usize),
 }
 
 // Replaces the saved settings by those of an image, if it has no fault.
-pub fn restore(settings: &mut [u8], image: &[u8]) -> Restored
+#[tactic(auto, unfolding(crate::specs::Calls::restore_promise))]
+pub fn restore(settings: &mut [u8], image: &[u8]) -> Result<(), RestoreError>
     ensures { restore_outcome result settings.new ≡ restore_promise settings.old image.now }
 {
     if !valid::settings_are_valid(settings) {
-        return Restored::Refused;
+        return Err(RestoreError::Refused);
     }
-    let found = check(image);
-    match found {
-        Found::Good => {
-            clear(settings);
-            put_records(settings, image);
-            Restored::Done
-        }
-        Found::Bad(number, offset) => Restored::Fault(number, offset),
+    // No `map_err` and `?`: the contract of its closure does not open.
+    if let Err((fault, offset)) = check(image) {
+        return Err(RestoreError::Fault(fault, offset));
     }
+    clear(settings);
+    put_records(settings, image);
+    Ok(())
 }
 
-// Reads the whole image up to its first fault or its end.
-fn check(image: &[u8]) -> Found
+// Reads the whole image up to its end, or its first fault and that one's offset.
+fn check(image: &[u8]) -> Result<(), (Fault, usize)>
     ensures { found_of result ≡ fault_in (read_image image.now) }
 {
-    let mut before: u8 = 0;
-    let mut at: usize = 0;
-    loop {
-        let next = pass(image, before, at);
-        match next {
-            Next::To(key, to) => {
-                before = key;
-                at = to;
-            }
-            Next::End => {
-                return Found::Good;
-            }
-            Next::Bad(number, offset) => {
-                return Found::Bad(number, offset);
-            }
-        }
+    let mut before = 0;
+    let mut at = 0;
+    while let Some((key, to)) = pass(image, before, at)? {
+        before = key;
+        at = to;
     }
+    Ok(())
 }
 
-// What stands at an offset behind a record of the key `before`.
-fn pass(image: &[u8], before: u8, at: usize) -> Next
+// What stands at an offset behind a record of the key `before`:
+// - a record, its key and the offset behind it
+// - none: the end
+// - a fault and its offset
+#[tactic(auto, using(crate::proofs::StepLaws::marks), unfolding(crate::specs::Saving::image_step))]
+fn pass(image: &[u8], before: u8, at: usize) -> Result<Option<(u8, usize)>, (Fault, usize)>
     requires { at ≤ length image.now }
     ensures { image_step_of result ≡ image_step image.now before at }
 {
     let left = image.len() - at;
     if left < image::MARK_LENGTH {
-        return Next::Bad(CUT_SHORT, image.len());
+        return Err((Fault::CutShort, image.len()));
     }
     if octets::same(image, at, b"KE", 0, image::MARK_LENGTH) {
         if image::MARK_LENGTH < left {
-            return Next::Bad(BYTES_AFTER, at + image::MARK_LENGTH);
+            return Err((Fault::BytesAfter, at + image::MARK_LENGTH));
         }
-        return Next::End;
+        return Ok(None);
     }
     if !octets::same(image, at, b"KV", 0, image::MARK_LENGTH) {
-        return Next::Bad(BAD_MARK, at);
+        return Err((Fault::BadMark, at));
     }
     if left < image::EDITION_OFFSET {
-        return Next::Bad(CUT_SHORT, image.len());
+        return Err((Fault::CutShort, image.len()));
     }
     if !key_follows(before, octets::read_u8(image, at + image::KEY_OFFSET)) {
-        return Next::Bad(BAD_KEY, at + image::KEY_OFFSET);
+        return Err((Fault::BadKey, at + image::KEY_OFFSET));
     }
-    pass_record(image, at)
+    pass_record(image, at).map(Some)
 }
 
 // Whether a record of this key may stand behind one of the key `before`.
+#[tactic(auto, unfolding(crate::specs::Saving::follows))]
 fn key_follows(before: u8, key: u8) -> bool
     ensures { result ≡ follows before key }
 {
-    if key < layout::FIRST_SETTING {
-        return false;
-    }
-    if image::HIGHEST_SAVED < key {
-        return false;
-    }
-    before < key
+    layout::FIRST_SETTING <= key && key <= image::HIGHEST_SAVED && before < key
 }
 
 // A record whose mark and key are good: its other fields.
-fn pass_record(image: &[u8], at: usize) -> Next
+#[tactic(auto, unfolding(crate::specs::Saving::record_step))]
+fn pass_record(image: &[u8], at: usize) -> Result<(u8, usize), (Fault, usize)>
     requires { at + 3 ≤ length image.now }
-    ensures { image_step_of result ≡ record_step image.now at }
+    ensures { record_step_of result ≡ record_step image.now at }
 {
     let left = image.len() - at;
     if left < image::VALUE_OFFSET {
-        return Next::Bad(CUT_SHORT, image.len());
+        return Err((Fault::CutShort, image.len()));
     }
     let key = octets::read_u8(image, at + image::KEY_OFFSET);
-    let n = octets::word_at(image, at + image::LENGTH_OFFSET);
+    let n = usize::from(octets::read_u16(image, at + image::LENGTH_OFFSET));
     if layout::longest_setting(key) < n {
-        return Next::Bad(TOO_LONG, at + image::LENGTH_OFFSET);
+        return Err((Fault::TooLong, at + image::LENGTH_OFFSET));
     }
     if left < image::RECORD_LENGTH + n {
-        return Next::Bad(CUT_SHORT, image.len());
+        return Err((Fault::CutShort, image.len()));
     }
     let body = image::VALUE_OFFSET + n;
     let sum = image::checksum_of(image, at, body);
     if octets::read_u16(image, at + body) != sum {
-        return Next::Bad(BAD_CHECKSUM, at + body);
+        return Err((Fault::BadChecksum, at + body));
     }
-    Next::To(key, at + (image::RECORD_LENGTH + n))
+    Ok((key, at + (image::RECORD_LENGTH + n)))
 }
 
 // The saved settings without a value, with edition and length 0.
@@ -160,15 +145,13 @@ fn clear(settings: &mut [u8])
     requires { settings_length ≤ length settings.old }
     ensures { settings.new ≡ cleared saved_count settings.old }
 {
-    let mut i = 0;
-    while i < image::SAVED_COUNT {
-        let at = layout::setting_offset(layout::FIRST_SETTING + i);
-        set_head(settings, at, 0, 0, 0);
-        i += 1;
+    for key in layout::FIRST_SETTING..=image::HIGHEST_SAVED {
+        set_head(settings, layout::setting_offset(key), 0, 0, 0);
     }
 }
 
-// What stands before a setting's value: whether there is one, the edition and the length.
+// What stands before a setting's value: whether there is one, the edition and the length. Each call has other numbers, so that no record
+// would travel.
 fn set_head(settings: &mut [u8], at: usize, held: u8, edition: u32, n: u16)
     requires { at + setting_value_offset ≤ length settings.old }
     ensures { settings.new ≡ overlay at (setting_head held edition n) settings.old }
@@ -184,6 +167,7 @@ fn put_records(settings: &mut [u8], image: &[u8])
     requires image_value { fault_in (read_image image.now) ≡ none }
     ensures { settings.new ≡ put_entries (entries_in (read_image image.now)) settings.old }
 {
+    // A `while`: each step passes a record of a length that varies.
     let mut at = 0;
     while !octets::same(image, at, b"KE", 0, image::MARK_LENGTH) {
         at = put_record(settings, image, at);
@@ -197,16 +181,16 @@ fn put_record(settings: &mut [u8], image: &[u8], at: usize) -> usize
     ensures value { result ≡ at + (11 + saved_length_at image.now at) }
     ensures settings_after { settings.new ≡ put_entry (saved_entry_at image.now at) settings.old }
 {
-    let n = octets::word_at(image, at + image::LENGTH_OFFSET);
+    let n = octets::read_u16(image, at + image::LENGTH_OFFSET);
     let to = layout::setting_offset(octets::read_u8(image, at + image::KEY_OFFSET));
     let edition = octets::read_u32(image, at + image::EDITION_OFFSET);
-    set_head(settings, to, 1, edition, n as u16);
+    set_head(settings, to, 1, edition, n);
     octets::copy(
         image,
         at + image::VALUE_OFFSET,
-        n,
+        usize::from(n),
         settings,
         to + layout::SETTING_VALUE_OFFSET,
     );
-    at + (image::RECORD_LENGTH + n)
+    at + (image::RECORD_LENGTH + usize::from(n))
 }

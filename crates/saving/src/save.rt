@@ -8,28 +8,23 @@ ghost use Rattle.supervisor.specs.Valid.{valid_settings};
 ghost use Rattle.saving.specs.Calls.{body_bytes, saved_record_bytes, image_bytes, save_outcome, save_promise};
 
 use crate::image;
+use refusals::Refusal;
 use supervisor::{layout, valid};
 
-#[derive(Clone, Copy)]
-pub enum Saved {
-    Done(usize),
-    Refused,
-    NoRoom,
-}
-
 // Writes the settings that have a value as an image into `out`.
-pub fn save(settings: &[u8], out: &mut [u8]) -> Saved
+#[tactic(auto, unfolding(crate::specs::Calls::save_promise))]
+pub fn save(settings: &[u8], out: &mut [u8]) -> Result<usize, Refusal>
     ensures { save_outcome result out.new ≡ save_promise settings.now out.old }
 {
     if !valid::settings_are_valid(settings) {
-        return Saved::Refused;
+        return Err(Refusal::BadState);
     }
     let n = image_length(settings);
     if out.len() < n {
-        return Saved::NoRoom;
+        return Err(Refusal::NoRoom);
     }
     write_image(settings, out);
-    Saved::Done(n)
+    Ok(n)
 }
 
 // How many bytes the record of a key has: none where the key has no value.
@@ -42,20 +37,19 @@ fn record_length(settings: &[u8], key: u8) -> usize
     if octets::read_u8(settings, from) != 1 {
         return 0;
     }
-    image::RECORD_LENGTH + octets::word_at(settings, from + layout::SETTING_LENGTH_OFFSET)
+    let n = octets::read_u16(settings, from + layout::SETTING_LENGTH_OFFSET);
+    image::RECORD_LENGTH + usize::from(n)
 }
 
 fn image_length(settings: &[u8]) -> usize
     requires { valid_settings settings.now ≡ true }
     ensures { result ≡ length (image_bytes settings.now) }
 {
-    let mut n = 0;
-    let mut i = 0;
-    while i < image::SAVED_COUNT {
-        n += record_length(settings, layout::FIRST_SETTING + i);
-        i += 1;
+    let mut n = image::MARK_LENGTH;
+    for key in layout::FIRST_SETTING..=image::HIGHEST_SAVED {
+        n += record_length(settings, key);
     }
-    n + image::MARK_LENGTH
+    n
 }
 
 // Writes the records in key order, then the end mark.
@@ -65,10 +59,8 @@ fn write_image(settings: &[u8], out: &mut [u8])
     ensures { out.new ≡ overlay 0 (image_bytes settings.now) out.old }
 {
     let mut at = 0;
-    let mut i = 0;
-    while i < image::SAVED_COUNT {
-        at = write_record(settings, layout::FIRST_SETTING + i, out, at);
-        i += 1;
+    for key in layout::FIRST_SETTING..=image::HIGHEST_SAVED {
+        at = write_record(settings, key, out, at);
     }
     octets::copy(b"KE", 0, image::MARK_LENGTH, out, at);
 }
@@ -85,7 +77,7 @@ fn write_record(settings: &[u8], key: u8, out: &mut [u8], at: usize) -> usize
     if octets::read_u8(settings, from) != 1 {
         return at;
     }
-    let n = octets::word_at(settings, from + layout::SETTING_LENGTH_OFFSET);
+    let n = usize::from(octets::read_u16(settings, from + layout::SETTING_LENGTH_OFFSET));
     let body = image::VALUE_OFFSET + n;
     write_body(settings, from, n, key, out, at);
     let sum = image::checksum_of(out, at, body);
@@ -93,7 +85,8 @@ fn write_record(settings: &[u8], key: u8, out: &mut [u8], at: usize) -> usize
     at + (image::RECORD_LENGTH + n)
 }
 
-// Writes the record of the setting at an offset, whose value has n bytes, without its checksum.
+// Writes the record of the setting at an offset, whose value has n bytes, without its checksum. The parameters travel no
+// further.
 fn write_body(settings: &[u8], from: usize, n: usize, key: u8, out: &mut [u8], at: usize)
     requires n_in_bounds { from + (setting_value_offset + n) ≤ length settings.now }
     requires n_bound { n < 65536 }

@@ -1,11 +1,9 @@
--- Laws of a call that posts an alert: the stores that put it behind those that wait, and each answer.
+-- Laws of a call that posts an alert: the stores that put it behind those that wait.
 -- Assumes nothing.
 use mathlib.Core.Path.{◌≡◌}
-use mathlib.Core.Bool.{true, false}
 use mathlib.Core.List.{List, [], ◌∷◌, ◌++◌, append_assoc}
 use Prim.Native.Nat.{ℕ, ◌+◌, ◌≤◌, ◌<◌}
 use native.Mathlib.Omega.{arith}
-use borrow.Author.Tests.{lt-ltb, le-ltb, eq-eqb, ne_eqb}
 use lib.ListN.{length, set, length-append, length-set}
 use lib.Seq.{take-length}
 use Rattle.octets.specs.Bytes.{bytes, overlay, put, copied}
@@ -15,9 +13,7 @@ use Rattle.supervisor.specs.Limits.{most_alerts, longest_alert}
 use Rattle.supervisor.specs.Layout.{registers_length, status_offset, alert_count_offset, alert_offset, alert_action_offset}
 use Rattle.supervisor.specs.Layout.{alert_text_offset, status_of, alert_count}
 use Rattle.supervisor.specs.Local.{set_bit}
-use Rattle.supervisor.specs.Valid.{valid_registers}
-use Rattle.supervisor.specs.Calls.{registers_outcome, post_report, with_alert, post_promise}
-use Rattle.supervisor.specs.declared.alerts.Posted.TheVariants.{Done, Refused, BadAction, TooLong, Full}
+use Rattle.supervisor.specs.Calls.{with_alert}
 
 -- its length, action and text, each stored behind the other
 slot : (at action : ℕ) (text r : List ℕ) → action < 256 → at + alert_text_offset + length text ≤ length r
@@ -65,29 +61,3 @@ alert-put r text {count} {action} {status} {t} long e few short byte f g h i =
       ← e,
       one_byte (count + 1) (omega arith),
     )
-
--- ---- the answers
-
-module _ (r : List ℕ) (action : ℕ) (text : List ℕ) where
-  pub post-refused : valid_registers r ≡ false → registers_outcome (post_report Refused) r ≡ post_promise r action text
-  unfolding post_report post_promise
-  post-refused v = rw v
-
-  pub post-bad : valid_registers r ≡ true → action ≡ 0 → registers_outcome (post_report BadAction) r ≡ post_promise r action text
-  unfolding post_report post_promise
-  post-bad v a = rw (v, eq-eqb action 0 a)
-
-  module _ (v : valid_registers r ≡ true) (a : action ≡ 0 → ⊥) where
-    pub post-long : longest_alert < length text → registers_outcome (post_report TooLong) r ≡ post_promise r action text
-    unfolding post_report post_promise
-    post-long l = rw (v, ne_eqb action 0 a, lt-ltb longest_alert (length text) l)
-
-    module _ (l : length text ≤ longest_alert) {count : ℕ} (e : count ≡ alert_count r) where
-      pub post-full : most_alerts ≤ count → registers_outcome (post_report Full) r ≡ post_promise r action text
-      unfolding post_report post_promise
-      post-full m = rw (v, ne_eqb action 0 a, le-ltb longest_alert (length text) l, le-ltb (alert_count r) most_alerts (omega arith))
-
-      pub post-done : {s : List ℕ} → count < most_alerts → s ≡ with_alert r action text
-          → registers_outcome (post_report Done) s ≡ post_promise r action text
-      unfolding post_report post_promise
-      post-done m f = rw (v, ne_eqb action 0 a, le-ltb longest_alert (length text) l, lt-ltb (alert_count r) most_alerts (omega arith), f)

@@ -3,11 +3,10 @@
 pub mod Cases
 pub mod OffsetLaws
 pub mod ValidLaws
+pub mod AllLaws
 pub mod KeptRegisters
 pub mod StartLaws
 pub mod OutboxLaws
 pub mod AlertLaws
 pub mod HighestBit
-pub mod OptionLaws
 pub mod KeyLaws
-pub mod ReadingLaws

@@ -1,7 +1,7 @@
--- Laws of a call of take: its refusal, nothing to move, and the bytes moved.
+-- Laws of a call of take: nothing to move, and the bytes moved.
 -- Assumes nothing.
 use mathlib.Core.Path.{◌≡◌, refl}
-use mathlib.Core.Bool.{true, false, cond}
+use mathlib.Core.Bool.{true, cond}
 use mathlib.Core.List.{List, [], ◌∷◌}
 use Prim.Native.Nat.{ℕ, ◌+◌, ◌-◌, ◌≤◌, ◌<◌, min}
 use native.Mathlib.Nat.{min-le_left, min-le_right}
@@ -9,18 +9,14 @@ use native.Mathlib.Omega.{arith}
 use lib.Dec.{eqb}
 use lib.ListN.{length, drop, set, get_or}
 use lib.Seq.{get_or-take, get_or-drop}
+use Rattle.std.specs.Prelude.{Ok}
 use Rattle.octets.specs.Bytes.{bytes, run, number_at, overlay, put, copied}
 use Rattle.octets.proofs.Numbers.{length-bytes, number-one}
 use Rattle.octets.proofs.Overlay.{length_run, length-overlay, overlay-none, overlay-one, put-fits, copied-fits}
 use Rattle.supervisor.specs.Layout.{outbox_from_offset, outbox_terminator_owed_offset, outbox_bytes_offset, outbox_from, outbox_to}
 use Rattle.supervisor.specs.Valid.{valid_outbox}
-use Rattle.supervisor.specs.Calls.{take_report, take_outcome, last_non_zero_flag, outbox_after_take, takeable, takeable_bytes, take_promise}
-use Rattle.supervisor.specs.declared.outbox.Taken.TheVariants.{Moved, Refused}
+use Rattle.supervisor.specs.Calls.{take_outcome, last_non_zero_flag, outbox_after_take, takeable, takeable_bytes, take_promise}
 use Rattle.supervisor.proofs.ValidLaws.{outbox-valid}
-
-pub take-refused : (o room : List ℕ) → valid_outbox o ≡ false → take_outcome Refused o room ≡ take_promise o room
-unfolding take_report take_promise
-take-refused o room e = rw e
 
 -- the last of n bytes
 last-of-run : (at n : ℕ) (o : List ℕ) → 0 < n → at + n ≤ length o
@@ -44,8 +40,8 @@ module _ (o room : List ℕ) {from to n : ℕ} (valid : valid_outbox o ≡ true)
   same : n ≡ takeable o room
   same = cc
 
-  pub take_none : n ≡ 0 → take_outcome (Moved 0) o room ≡ take_promise o room
-  unfolding take_report take_promise outbox_after_take
+  pub take_none : n ≡ 0 → take_outcome (Ok 0) o room ≡ take_promise o room
+  unfolding take_promise outbox_after_take
   take_none z = rw (valid, ← same, z, overlay-none)
 
   there : outbox_bytes_offset + from + n ≤ length o
@@ -80,8 +76,8 @@ module _ (o room : List ℕ) {from to n : ℕ} (valid : valid_outbox o ≡ true)
 
   pub take-some : {last owed : ℕ} {s t : List ℕ} → (n ≡ 0 → ⊥) → last ≡ number_at 1 o (outbox_bytes_offset + from + n - 1)
       → s ≡ copied o (outbox_bytes_offset + from) n room 0 → t ≡ put outbox_from_offset (bytes 2 (from + n)) o
-      → owed ≡ cond (eqb last 0) 0 1 → take_outcome (Moved n) (set t outbox_terminator_owed_offset owed) s ≡ take_promise o room
-  unfolding take_report take_promise
+      → owed ≡ cond (eqb last 0) 0 1 → take_outcome (Ok n) (set t outbox_terminator_owed_offset owed) s ≡ take_promise o room
+  unfolding take_promise
   take-some z f g h k =
       let p : 0 < n = omega arith in
       rw valid (cc (same, room_after, outbox-after p))

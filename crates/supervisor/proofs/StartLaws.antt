@@ -1,7 +1,7 @@
 -- The laws of start: the parts that it leaves, and what it answers.
 -- Assumes nothing.
-use mathlib.Core.Path.{◌≡◌, refl, sym, ap, ◌∙◌}
-use mathlib.Core.Bool.{true, false, ◌&&◌, and-eq-true_iff}
+use mathlib.Core.Path.{◌≡◌, sym, ap, ◌∙◌}
+use mathlib.Core.Bool.{true, ◌&&◌, and-eq-true_iff}
 use mathlib.Core.List.{List, ◌++◌}
 use Prim.Native.Nat.{ℕ, ◌+◌, ◌-◌, ◌≤◌}
 use native.Mathlib.Omega.{arith}
@@ -14,14 +14,13 @@ use Rattle.octets.proofs.Numbers.{length-bytes}
 use Rattle.octets.proofs.Overlay.{length-overlay, overlay-again, overlay-next, overlay-swap, put-fits, copied-fits}
 use Rattle.octets.proofs.Zeros.{zeros, zeros-add, length-zeros, cleared-fits}
 use Rattle.line.specs.Reader
-use Rattle.line.specs.declared.reader.Started.{Started as Reader-Started}
-use Rattle.octets.proofs.Conditions.{cond-by}
 use Rattle.supervisor.specs.Layout
 use Rattle.supervisor.specs.Local.{pong}
 use Rattle.supervisor.specs.Valid.{good_start}
-use Rattle.supervisor.specs.Calls.{Parts, parts, StartOutcome, long_enough, fresh_parts, start_report, start_outcome, start_promise}
-use Rattle.supervisor.specs.declared.start.Started.{Started}
-use Rattle.supervisor.specs.declared.start.Started.TheVariants as answer
+use Rattle.supervisor.specs.Calls.{Parts, parts, StartOutcome, long_enough, fresh_parts, start_outcome, start_promise}
+use Rattle.std.specs.Prelude.{⊤, Result, Ok, Err}
+use Rattle.refusals.specs.declared.Refusal.{Refusal}
+use Rattle.refusals.specs.declared.Refusal.TheVariants as refusal
 
 -- ---- the factory store and the registers
 
@@ -105,34 +104,31 @@ is-long-enough p r =
     rw (le-leb _ _ r.reader, le-leb _ _ r.outbox, le-leb _ _ r.factory, le-leb _ _ r.settings, le-leb _ _ r.registers)
 
 -- an answer with the parts as they are
-abbrev kept : Started → Parts → StartOutcome
+abbrev kept : Result ⊤ Refusal → Parts → StartOutcome
 kept a p = start_outcome a (parts p.reader p.outbox p.factory p.settings p.registers)
 
--- a part is too short
-pub cramped : (d : List ℕ) (p : Parts) → (LongEnough p → ⊥) → kept answer.Refused p ≡ start_promise d p
-unfolding start_promise start_report
-cramped d p f = cond-by (λ t. kept answer.Refused p ≡ t) (long_enough p) _ _ (λ e. absurd (f (long-enough-is p e))) (λ e. refl)
-
--- the start data are not allowed
-pub unfit : (d : List ℕ) (p : Parts) → LongEnough p → good_start d ≡ false → kept answer.BadData p ≡ start_promise d p
-unfolding start_promise start_report
-unfit d p r e = rw (is-long-enough p r, e)
-
 -- the reader's part
-reader-begun : (s t : List ℕ) (a : Reader-Started) → Reader.reader_length ≤ length s
+reader-begun : (s t : List ℕ) (a : Result ⊤ Refusal) → Reader.reader_length ≤ length s
     → Reader.reader_start_outcome a t ≡ Reader.reader_start_promise s → t ≡ Reader.reader_fresh s
 unfolding Reader.reader_start_promise
 reader-begun s t a h e = ap (λ (o : Reader.ReaderStartOutcome). o.state) (rw (le-leb _ _ h) at e)
 
+-- it does not refuse bytes that are long enough
+pub reader-not-refused : (s t : List ℕ) (a : Result ⊤ Refusal) (why : Refusal) → Reader.reader_length ≤ length s
+    → Reader.reader_start_outcome a t ≡ Reader.reader_start_promise s → a ≡ Err why → ⊥
+unfolding Reader.reader_start_promise
+reader-not-refused s t a why h e is =
+    let f = rw (is, le-leb _ _ h) at (ap (λ (o : Reader.ReaderStartOutcome). o.refusal) e) in cc
+
 -- each part as it was set
-pub begun : (d : List ℕ) (p q : Parts) (a : Reader-Started) → LongEnough p → good_start d ≡ true
+pub begun : (d : List ℕ) (p q : Parts) (a : Result ⊤ Refusal) → LongEnough p → good_start d ≡ true
     → Reader.reader_start_outcome a q.reader ≡ Reader.reader_start_promise p.reader
     → q.outbox ≡ put 0 (zeros Layout.outbox_length) p.outbox
     → q.factory ≡ overlay 0 (d ++ bytes 4 0 ++ pong) p.factory
     → q.settings ≡ put 0 (zeros Layout.settings_length) p.settings
     → q.registers ≡ overlay 0 (bytes 8 1 ++ zeros (Layout.registers_length - 8)) p.registers
-    → kept answer.Done q ≡ start_promise d p
-unfolding start_promise start_report fresh_parts
+    → kept (Ok tt) q ≡ start_promise d p
+unfolding start_promise fresh_parts
 begun d p q a r e reader outbox factory settings registers =
     let x = reader-begun p.reader q.reader a r.reader reader in
     let y = outbox ∙ cleared-fits 0 p.outbox Layout.outbox_length (omega (arith, r.outbox)) in

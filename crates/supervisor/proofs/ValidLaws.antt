@@ -1,8 +1,8 @@
 -- What each test of specs/Valid.antt says of the numbers that it reads, as a record, and back.
 -- Assumes nothing.
 use mathlib.Core.Path.{◌≡◌, refl, sym, ◌∙◌}
-use mathlib.Core.Logic.{◌⊎◌, inl, inr, ⊎_elim, ⊎_map}
-use mathlib.Core.Bool.{Bool, true, false, not, ◌&&◌, ◌||◌, false≢true, or-true, and-eq-true_iff}
+use mathlib.Core.Logic.{◌⊎◌, inl, inr, ⊎_map}
+use mathlib.Core.Bool.{Bool, true, false, ◌&&◌, ◌||◌, false≢true, or-true, and-eq-true_iff}
 use mathlib.Core.List.{List}
 use Prim.Native.Nat.{ℕ, zero, suc, ◌+◌, ◌-◌, ◌≤◌, ◌<◌}
 use native.Mathlib.Omega.{arith}
@@ -10,7 +10,7 @@ use native.Mathlib.Numerals.{add-one}
 use lib.Dec.{leb, eqb}
 use lib.ListN.{length}
 use borrow.Author.Count.{below_none, below_more}
-use borrow.Author.Tests.{leb-true, le-leb, eqb-true, eq-eqb, not-true, not-false}
+use borrow.Author.Tests.{leb-true, le-leb, eqb-true, eq-eqb}
 use Rattle.octets.specs.Bytes.{number_at, run}
 use Rattle.octets.proofs.Equal.{equal-true, equal-refl}
 use Rattle.octets.proofs.SameBytes.{Same, number_same}
@@ -31,13 +31,6 @@ untrue false f = refl
 pub alike : (a b : Bool) → (a ≡ true → b ≡ true) → (b ≡ true → a ≡ true) → a ≡ b
 alike true b f g = sym (f refl)
 alike false b f g = untrue b (λ e. false≢true (g e))
-
--- a call's answer, by the test of its negation
-pub passed : (r t : Bool) → r ≡ t → not r ≡ false → t ≡ true
-passed r t e h = sym e ∙ not-false r h
-
-pub failed : (r t : Bool) → r ≡ t → not r ≡ true → t ≡ true → ⊥
-failed r t e h k = false≢true (sym (not-true r h) ∙ (e ∙ k))
 
 pub le-alike : (m n : ℕ) (b : Bool) → (m ≤ n → b ≡ true) → (b ≡ true → m ≤ n) → leb m n ≡ b
 le-alike m n b f g = alike (leb m n) b (λ t. f (leb-true m n t)) (λ e. le-leb m n (g e))
@@ -96,10 +89,6 @@ pub record ItemGood (d : List ℕ) (i : ℕ) : Type 0 where
 pub item-good : (d : List ℕ) (i : ℕ) → Valid.good_item d i ≡ true → ItemGood d i
 unfolding Valid.good_item
 item-good d i e = let t = both _ _ e in record { result = t.0; size = leb-true _ _ t.1 }
-
-pub good-item : (d : List ℕ) (i : ℕ) → ItemGood d i → Valid.good_item d i ≡ true
-unfolding Valid.good_item
-good-item d i g = and _ _ g.result (le-leb _ _ g.size)
 
 pub record StartGood (d : List ℕ) : Type 0 where
   pub bsu : (number_at 1 d Layout.bsu_offset ≡ 0x41) ⊎ (number_at 1 d Layout.bsu_offset ≡ 0x42)
@@ -193,16 +182,6 @@ valid-setting s at shortest longest v =
     (⊎_map (λ f. and _ _ (eq-eqb _ _ f.0) (le-leb _ _ f.1))
     (λ f. and _ _ (eq-eqb _ _ f.0) (and _ _ (eq-eqb _ _ f.1) (eq-eqb _ _ f.2)))
     v.held))
-
-module _ {s : List ℕ} {at shortest longest : ℕ} (v : SettingValid s at shortest longest) where
-  pub held-flag : Layout.setting_held s at ≤ 1
-  held-flag = ⊎_elim (λ f. omega (arith, f.0)) (λ f. omega (arith, f.0)) v.held
-
-  pub value-long : Layout.setting_held s at ≡ 1 → shortest ≤ Layout.setting_length s at
-  value-long h = ⊎_elim (λ f. f.1) (λ f. absurd (omega (arith, f.0))) v.held
-
-  pub none-held : Layout.setting_held s at ≡ 0 → (Layout.setting_length s at ≡ 0) × (Layout.setting_edition s at ≡ 0)
-  none-held h = ⊎_elim (λ f. absurd (omega (arith, f.0))) (λ f. (f.1, f.2)) v.held
 
 -- what stands before its value is the same
 pub setting_kept : {s t : List ℕ} {at shortest longest : ℕ} → Same at (at + Layout.setting_value_offset) s t

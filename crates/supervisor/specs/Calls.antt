@@ -1,7 +1,10 @@
 -- What each local call answers and leaves in the bytes that it is lent. This follows document 01, "When a call says no" and the rules it
 -- names. Assumes nothing: these are definitions.
-use Rattle.std.specs.Prelude.{Bool, true, false, cond, not, ◌&&◌, List, [], ◌∷◌, ◌++◌, ℕ, ◌+◌, ◌-◌, min, leb, ltb, eqb, length, replicate}
-use Rattle.std.specs.Prelude.{get_or}
+use Rattle.std.specs.Prelude.{Bool, cond, not, ◌&&◌, List, [], ◌∷◌, ◌++◌, ℕ, ◌+◌, ◌-◌, min, leb, ltb, eqb, length, replicate}
+use Rattle.std.specs.Prelude.{get_or, ⊤, Result, Ok, Err, None, Some}
+use Rattle.std.specs.declared.option.Option as code
+use Rattle.refusals.specs.Refusals.{table_number, refusal_of}
+use Rattle.refusals.specs.declared.Refusal.{Refusal}
 use Rattle.std.proofs.Math.Option.{Option, none, some}
 use Rattle.octets.specs.Bytes.{bytes, run, number_at, overlay}
 use Rattle.octets.specs.Places.{LentBytes, Place, place_in, part_place}
@@ -11,28 +14,14 @@ use Rattle.supervisor.specs.Local
 use Rattle.supervisor.specs.Local.{pong}
 use Rattle.supervisor.specs.Layout
 use Rattle.supervisor.specs.Valid.{good_start, valid_outbox, valid_factory, valid_settings, valid_registers}
-use Rattle.supervisor.specs.declared.start.Started.{Started}
-use Rattle.supervisor.specs.declared.start.Started.TheVariants as started
-use Rattle.supervisor.specs.declared.outbox.Taken.{Taken}
-use Rattle.supervisor.specs.declared.outbox.Taken.TheVariants as taken
-use Rattle.supervisor.specs.declared.alerts.Posted.{Posted}
-use Rattle.supervisor.specs.declared.alerts.Posted.TheVariants as posted
-use Rattle.supervisor.specs.declared.options.OptionsSet.{OptionsSet}
-use Rattle.supervisor.specs.declared.options.OptionsSet.TheVariants as options-set
-use Rattle.supervisor.specs.declared.keys.Found.{Found}
-use Rattle.supervisor.specs.declared.keys.Found.TheVariants as found
-use Rattle.supervisor.specs.declared.keys.EditionFound.{EditionFound}
-use Rattle.supervisor.specs.declared.keys.EditionFound.TheVariants as edition-found
+use Rattle.supervisor.specs.declared.keys.LookupError.{LookupError}
+use Rattle.supervisor.specs.declared.keys.LookupError.TheVariants as lookup
 use Rattle.supervisor.specs.declared.keys.Location.{Location}
 use Rattle.supervisor.specs.declared.keys.Location.TheVariants as location
-use Rattle.supervisor.specs.declared.registers.SignalRead.{SignalRead}
-use Rattle.supervisor.specs.declared.registers.SignalRead.TheVariants as signal
-use Rattle.supervisor.specs.declared.registers.FlagsRead.{FlagsRead}
-use Rattle.supervisor.specs.declared.registers.FlagsRead.TheVariants as flags
+use Rattle.supervisor.specs.declared.registers.Asked.{Asked}
 use Rattle.supervisor.specs.declared.registers.Kind.{Kind}
 use Rattle.supervisor.specs.declared.registers.Kind.TheVariants as kind
-use Rattle.supervisor.specs.declared.registers.Recorded.{Recorded}
-use Rattle.supervisor.specs.declared.registers.Recorded.TheVariants as recorded
+use Rattle.supervisor.specs.declared.registers.Entry.{Entry}
 
 -- ---- Start
 
@@ -69,16 +58,14 @@ fresh_parts d p = record {
 }
 
 -- the table's number of a refusal; none where the call is carried out
-unfoldable pub start_report : Started → Option ℕ
-start_report started.Done = none
-start_report started.Refused = some 12
-start_report started.BadData = some 11
+abbrev pub start_report : Result ⊤ Refusal → Option ℕ
+start_report r = refusal_of r
 
 pub record StartOutcome : Type 0 where
   pub refusal : Option ℕ
   pub parts : Parts
 
-abbrev pub start_outcome : Started → Parts → StartOutcome
+abbrev pub start_outcome : Result ⊤ Refusal → Parts → StartOutcome
 start_outcome r p = record { refusal = start_report r; parts = p }
 
 -- the room alone is tested for 12, then the start data for 11
@@ -95,16 +82,16 @@ pub data TakeReport : Type 0 where
   moved : ℕ → TakeReport
   refused : ℕ → TakeReport
 
-unfoldable pub take_report : Taken → TakeReport
-take_report (taken.Moved n) = moved n
-take_report taken.Refused = refused 12
+abbrev pub take_report : Result ℕ Refusal → TakeReport
+take_report (Ok n) = moved n
+take_report (Err why) = refused (table_number why)
 
 pub record TakeOutcome : Type 0 where
   pub report : TakeReport
   pub outbox : List ℕ
   pub room : List ℕ
 
-abbrev pub take_outcome : Taken → List ℕ → List ℕ → TakeOutcome
+abbrev pub take_outcome : Result ℕ Refusal → List ℕ → List ℕ → TakeOutcome
 take_outcome r outbox room = record { report = take_report r; outbox = outbox; room = room }
 
 -- whether the last of some bytes is not zero
@@ -137,12 +124,8 @@ take_promise o room =
 
 -- ---- Post an alert
 
-unfoldable pub post_report : Posted → Option ℕ
-post_report posted.Done = none
-post_report posted.Refused = some 12
-post_report posted.BadAction = some 13
-post_report posted.TooLong = some 9
-post_report posted.Full = some 10
+abbrev pub post_report : Result ⊤ Refusal → Option ℕ
+post_report r = refusal_of r
 
 -- a call that changes the registers alone
 pub record RegistersOutcome : Type 0 where
@@ -171,10 +154,8 @@ post_promise r action text =
 
 -- ---- Set options
 
-unfoldable pub options_report : OptionsSet → Option ℕ
-options_report options-set.Done = none
-options_report options-set.Refused = some 12
-options_report options-set.BadOption = some 13
+abbrev pub options_report : Result ⊤ Refusal → Option ℕ
+options_report r = refusal_of r
 
 unfoldable pub options_promise : List ℕ → ℕ → RegistersOutcome
 options_promise r options =
@@ -205,13 +186,21 @@ pub data LookupReport : Type 0 where
   result : ℕ → ℕ → LookupReport
   refused : ℕ → LookupReport
 
-unfoldable pub lookup_report : Found → LookupReport
-lookup_report found.Refused = refused 12
-lookup_report (found.Value n) = result 0 n
-lookup_report found.BadKey = result 1 0
-lookup_report found.NoValue = result 2 0
-lookup_report found.TooLong = result 3 0
-lookup_report found.SetOnly = result 4 0
+-- the number of a lookup that hands nothing out
+abbrev pub lookup_number : LookupError → ℕ
+lookup_number lookup.Refused = 12
+lookup_number lookup.BadKey = 1
+lookup_number lookup.NoValue = 2
+lookup_number lookup.TooLong = 3
+lookup_number lookup.SetOnly = 4
+
+abbrev pub lookup_report : Result ℕ LookupError → LookupReport
+lookup_report (Ok n) = result 0 n
+lookup_report (Err lookup.Refused) = refused 12
+lookup_report (Err lookup.BadKey) = result 1 0
+lookup_report (Err lookup.NoValue) = result 2 0
+lookup_report (Err lookup.TooLong) = result 3 0
+lookup_report (Err lookup.SetOnly) = result 4 0
 
 -- the number of a lookup's result
 abbrev pub result_number : LookupReport → ℕ
@@ -240,12 +229,13 @@ pub data EditionReport : Type 0 where
   result : ℕ → ℕ → EditionReport
   refused : ℕ → EditionReport
 
-unfoldable pub edition_report : EditionFound → EditionReport
-edition_report edition-found.Refused = EditionReport.refused 12
-edition_report (edition-found.Edition n) = EditionReport.result 0 n
-edition_report edition-found.BadKey = EditionReport.result 1 0
-edition_report edition-found.NoValue = EditionReport.result 2 0
-edition_report edition-found.SetOnly = EditionReport.result 4 0
+abbrev pub edition_report : Result ℕ LookupError → EditionReport
+edition_report (Ok n) = EditionReport.result 0 n
+edition_report (Err lookup.Refused) = EditionReport.refused 12
+edition_report (Err lookup.BadKey) = EditionReport.result 1 0
+edition_report (Err lookup.NoValue) = EditionReport.result 2 0
+edition_report (Err lookup.TooLong) = EditionReport.result 3 0
+edition_report (Err lookup.SetOnly) = EditionReport.result 4 0
 
 -- the edition, 0 where none is handed out
 abbrev pub edition_number : EditionReport → ℕ
@@ -322,19 +312,18 @@ pub data RegisterReport (A : Type 0) : Type 0 where
   is : A → RegisterReport A
   refused : ℕ → RegisterReport A
 
-unfoldable pub signal_report : SignalRead → RegisterReport Bool
-signal_report signal.Refused = RegisterReport.refused 12
-signal_report signal.Asserted = is true
-signal_report signal.Clear = is false
+abbrev pub signal_report : Result Bool Refusal → RegisterReport Bool
+signal_report (Ok asserted) = is asserted
+signal_report (Err why) = RegisterReport.refused (table_number why)
 
 -- asserted exactly when status is not 0
 unfoldable pub signal_promise : List ℕ → RegisterReport Bool
 signal_promise r = cond (valid_registers r) (is (not (eqb (Layout.status_of r) 0))) (RegisterReport.refused 12)
 
 -- reboot asked for, power off asked for
-unfoldable pub flags_report : FlagsRead → RegisterReport (Bool × Bool)
-flags_report flags.Refused = RegisterReport.refused 12
-flags_report (flags.Read a) = is (a.reboot, a.power_off)
+abbrev pub flags_report : Result Asked Refusal → RegisterReport (Bool × Bool)
+flags_report (Ok a) = is (a.reboot, a.power_off)
+flags_report (Err why) = RegisterReport.refused (table_number why)
 
 unfoldable pub flags_promise : List ℕ → RegisterReport (Bool × Bool)
 flags_promise r =
@@ -351,10 +340,10 @@ pub record RecordRead : Type 0 where
   pub whole : ℕ
   pub kept : ℕ
 
-unfoldable pub record_report : Recorded → RegisterReport (Option RecordRead)
-record_report recorded.Refused = RegisterReport.refused 12
-record_report recorded.Nothing = is none
-record_report (recorded.Found e) = is (some (record { code = e.code; whole = e.whole; kept = e.kept }))
+abbrev pub record_report : Result (code.Option Entry) Refusal → RegisterReport (Option RecordRead)
+record_report (Ok None) = is none
+record_report (Ok (Some e)) = is (some (record { code = e.code; whole = e.whole; kept = e.kept }))
+record_report (Err why) = RegisterReport.refused (table_number why)
 
 abbrev pub kept_count : List ℕ → ℕ → ℕ
 kept_count r at = min (Layout.record_whole r at) Limits.most_kept

@@ -7,36 +7,29 @@ ghost use Rattle.supervisor.specs.Local.{set_bit};
 ghost use Rattle.supervisor.specs.Calls.{registers_outcome, post_report, with_alert, post_promise};
 
 use crate::{layout, valid};
-
-#[derive(Clone, Copy)]
-pub enum Posted {
-    Done,
-    Refused,
-    BadAction,
-    TooLong,
-    Full,
-}
+use refusals::Refusal;
 
 // Posts an alert.
-pub fn post(registers: &mut [u8], action: u8, text: &[u8]) -> Posted
+#[tactic(auto, unfolding(crate::specs::Calls::post_promise))]
+pub fn post(registers: &mut [u8], action: u8, text: &[u8]) -> Result<(), Refusal>
     ensures { registers_outcome (post_report result) registers.new
         ≡ post_promise registers.old action text.now }
 {
     if !valid::registers_are_valid(registers) {
-        return Posted::Refused;
+        return Err(Refusal::BadState);
     }
     if action == 0 {
-        return Posted::BadAction;
+        return Err(Refusal::BadValue);
     }
     if layout::LONGEST_ALERT < text.len() {
-        return Posted::TooLong;
+        return Err(Refusal::TooLong);
     }
-    let count = octets::byte_at(registers, layout::ALERT_COUNT_OFFSET);
-    if count < layout::MOST_ALERTS {
-        add_alert(registers, count, action, text);
-        return Posted::Done;
+    let count = usize::from(octets::read_u8(registers, layout::ALERT_COUNT_OFFSET));
+    if layout::MOST_ALERTS <= count {
+        return Err(Refusal::AlertsFull);
     }
-    Posted::Full
+    add_alert(registers, count, action, text);
+    Ok(())
 }
 
 // Puts an alert behind those that wait.
@@ -67,9 +60,5 @@ fn with_bit_1(status: u64) -> u64
     requires { status ≤ 3 }
     ensures { result ≡ set_bit status 1 }
 {
-    if status / 2 % 2 == 1 {
-        status
-    } else {
-        status + 2
-    }
+    status | 2
 }

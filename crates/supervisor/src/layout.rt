@@ -18,8 +18,6 @@ pub const HIGHEST_KEY: u8 = 6;
 // The settings keys run from this one to the highest.
 pub const FIRST_SETTING: u8 = 3;
 
-pub const SETTING_COUNT: u8 = HIGHEST_KEY + 1 - FIRST_SETTING;
-
 pub const LONGEST_KEY_3: usize = 256;
 
 pub const LONGEST_KEY_4: usize = 4096;
@@ -35,7 +33,7 @@ pub const SHORTEST_KEY_6: usize = 8;
 pub const LONGEST_KEY_6: usize = 63;
 
 // The last edition of a setting.
-pub const LAST_EDITION: u32 = 4294967295;
+pub const LAST_EDITION: u32 = u32::MAX;
 
 pub const MOST_ALERTS: usize = 8;
 
@@ -135,51 +133,42 @@ pub const KEY_6_OFFSET: usize = KEY_5_OFFSET + SETTING_VALUE_OFFSET + LONGEST_KE
 pub const SETTINGS_LENGTH: usize = KEY_6_OFFSET + SETTING_VALUE_OFFSET + LONGEST_KEY_6;
 
 // The longest value of a settings key.
+#[tactic(auto, unfolding(crate::specs::Limits::longest_setting))]
 pub fn longest_setting(key: u8) -> usize
     ensures { (result ≡ longest_setting key) × (result ≤ longest_value) }
 {
-    if key <= FIRST_SETTING {
-        return LONGEST_KEY_3;
+    match key {
+        0..=FIRST_SETTING => LONGEST_KEY_3,
+        4 => LONGEST_KEY_4,
+        5 => LONGEST_KEY_5,
+        PASSPHRASE_KEY => LONGEST_KEY_6,
+        _ => 0,
     }
-    if key == 4 {
-        return LONGEST_KEY_4;
-    }
-    if key == 5 {
-        return LONGEST_KEY_5;
-    }
-    if key == PASSPHRASE_KEY {
-        return LONGEST_KEY_6;
-    }
-    0
 }
 
 // The shortest value of a settings key.
+#[tactic(auto, unfolding(crate::specs::Limits::shortest_setting))]
 pub fn shortest_setting(key: u8) -> usize
     ensures { result ≡ shortest_setting key }
 {
-    if key == PASSPHRASE_KEY {
-        return SHORTEST_KEY_6;
+    match key {
+        PASSPHRASE_KEY => SHORTEST_KEY_6,
+        _ => 0,
     }
-    0
 }
 
 // Where the setting of a key lies.
+#[tactic(auto, unfolding(crate::specs::Layout::setting_offset))]
 pub fn setting_offset(key: u8) -> usize
     ensures { (result ≡ setting_offset key) × (result ≤ settings_length) }
 {
-    if key <= FIRST_SETTING {
-        return 0;
+    match key {
+        0..=FIRST_SETTING => 0,
+        4 => KEY_4_OFFSET,
+        5 => KEY_5_OFFSET,
+        PASSPHRASE_KEY => KEY_6_OFFSET,
+        _ => SETTINGS_LENGTH,
     }
-    if key == 4 {
-        return KEY_4_OFFSET;
-    }
-    if key == 5 {
-        return KEY_5_OFFSET;
-    }
-    if key == PASSPHRASE_KEY {
-        return KEY_6_OFFSET;
-    }
-    SETTINGS_LENGTH
 }
 
 // The registers.

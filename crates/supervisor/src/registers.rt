@@ -7,92 +7,77 @@ ghost use Rattle.supervisor.specs.Calls.{signal_report, signal_promise, flags_re
 ghost use Rattle.supervisor.specs.Calls.{record_promise, record_bytes_promise, record_bytes_place, kept_count};
 
 use crate::{layout, valid};
-
-#[derive(Clone, Copy)]
-pub enum SignalRead {
-    Refused,
-    Asserted,
-    Clear,
-}
+use refusals::Refusal;
 
 // Reboot asked for, power off asked for.
-#[derive(Clone, Copy)]
+#[derive(Clone, Copy, Debug, PartialEq, Eq)]
 pub struct Asked {
     pub reboot: bool,
     pub power_off: bool,
 }
 
-#[derive(Clone, Copy)]
-pub enum FlagsRead {
-    Refused,
-    Read(Asked),
-}
-
-#[derive(Clone, Copy)]
+#[derive(Clone, Copy, Debug, PartialEq, Eq)]
 pub enum Kind {
     BootFailure,
     Panic,
 }
 
 // A record's code, the whole length of its rest, and how many bytes of the rest are kept.
-#[derive(Clone, Copy)]
+#[derive(Clone, Copy, Debug, PartialEq, Eq)]
 pub struct Entry {
     pub code: usize,
     pub whole: usize,
     pub kept: usize,
 }
 
-#[derive(Clone, Copy)]
-pub enum Recorded {
-    Refused,
-    Nothing,
-    Found(Entry),
-}
-
-// The line signal: asserted exactly when status is not 0.
-pub fn signal(registers: &[u8]) -> SignalRead
+// Whether the line signal is asserted: exactly when status is not 0.
+#[tactic(auto, unfolding(crate::specs::Calls::signal_promise))]
+pub fn signal(registers: &[u8]) -> Result<bool, Refusal>
     ensures { signal_report result ≡ signal_promise registers.now }
 {
     if !valid::registers_are_valid(registers) {
-        return SignalRead::Refused;
+        return Err(Refusal::BadState);
     }
-    if octets::read_u64(registers, layout::STATUS_OFFSET) == 0 {
-        return SignalRead::Clear;
-    }
-    SignalRead::Asserted
+    Ok(octets::read_u64(registers, layout::STATUS_OFFSET) != 0)
 }
 
 // The two flags.
-pub fn flags(registers: &[u8]) -> FlagsRead
+#[tactic(auto, unfolding(crate::specs::Calls::flags_promise))]
+pub fn flags(registers: &[u8]) -> Result<Asked, Refusal>
     ensures { flags_report result ≡ flags_promise registers.now }
 {
     if !valid::registers_are_valid(registers) {
-        return FlagsRead::Refused;
+        return Err(Refusal::BadState);
     }
-    let reboot = octets::byte_at(registers, layout::REBOOT_OFFSET) == 1;
-    let power_off = octets::byte_at(registers, layout::POWER_OFF_OFFSET) == 1;
-    FlagsRead::Read(Asked { reboot, power_off })
-}
-
-// A record, or that there is none.
-pub fn record(registers: &[u8], kind: Kind) -> Recorded
-    ensures { record_report result ≡ record_promise registers.now kind }
-{
-    if !valid::registers_are_valid(registers) {
-        return Recorded::Refused;
-    }
-    let at = record_offset(kind);
-    if octets::byte_at(registers, at) != 1 {
-        return Recorded::Nothing;
-    }
-    Recorded::Found(Entry {
-        code: octets::word_at(registers, at + layout::RECORD_CODE_OFFSET),
-        whole: octets::word_at(registers, at + layout::RECORD_WHOLE_OFFSET),
-        kept: kept(registers, at),
+    Ok(Asked {
+        reboot: octets::read_u8(registers, layout::REBOOT_OFFSET) == 1,
+        power_off: octets::read_u8(registers, layout::POWER_OFF_OFFSET) == 1,
     })
 }
 
+// A record, or that there is none.
+#[tactic(auto, unfolding(crate::specs::Calls::record_promise, crate::specs::Calls::record_at))]
+pub fn record(registers: &[u8], kind: Kind) -> Result<Option<Entry>, Refusal>
+    ensures { record_report result ≡ record_promise registers.now kind }
+{
+    if !valid::registers_are_valid(registers) {
+        return Err(Refusal::BadState);
+    }
+    let at = record_offset(kind);
+    if octets::read_u8(registers, at) != 1 {
+        return Ok(None);
+    }
+    let code = octets::read_u16(registers, at + layout::RECORD_CODE_OFFSET);
+    let whole = octets::read_u16(registers, at + layout::RECORD_WHOLE_OFFSET);
+    Ok(Some(Entry {
+        code: usize::from(code),
+        whole: usize::from(whole),
+        kept: kept(registers, at),
+    }))
+}
+
 // A record's kept bytes; an empty part where there is no record.
+#[tactic(auto, unfolding(crate::specs::Calls::record_bytes_promise, crate::specs::Calls::record_bytes_place))]
 pub fn record_bytes<'a>(registers: &'a [u8], kind: Kind) -> &'a [u8]
     ensures result_value { result.now ≡ record_bytes_promise registers.now kind }
     ensures ref_ptr_value { result.ref_ptr ≡ record_bytes_place registers.entry kind }
@@ -101,7 +86,7 @@ pub fn record_bytes<'a>(registers: &'a [u8], kind: Kind) -> &'a [u8]
         return &registers[0..0];
     }
     let at = record_offset(kind);
-    if octets::byte_at(registers, at) != 1 {
+    if octets::read_u8(registers, at) != 1 {
         return &registers[0..0];
     }
     let from = at + layout::RECORD_KEPT_OFFSET;
@@ -109,6 +94,7 @@ pub fn record_bytes<'a>(registers: &'a [u8], kind: Kind) -> &'a [u8]
     &registers[from..from + n]
 }
 
+#[tactic(auto, unfolding(crate::specs::Calls::record_offset))]
 fn record_offset(kind: Kind) -> usize
     ensures { (result ≡ record_offset kind) × (result ≤ panic_offset) }
 {
@@ -122,10 +108,6 @@ fn kept(registers: &[u8], at: usize) -> usize
     requires { at < 65536 }
     ensures { (result ≡ kept_count registers.now at) × (result ≤ most_kept) }
 {
-    let whole = octets::word_at(registers, at + layout::RECORD_WHOLE_OFFSET);
-    if whole < layout::MOST_KEPT {
-        whole
-    } else {
-        layout::MOST_KEPT
-    }
+    let whole = octets::read_u16(registers, at + layout::RECORD_WHOLE_OFFSET);
+    usize::from(whole).min(layout::MOST_KEPT)
 }

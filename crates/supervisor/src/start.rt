@@ -7,15 +7,11 @@ ghost use Rattle.supervisor.specs.Local.{pong};
 ghost use Rattle.supervisor.specs.Calls.{parts, start_outcome, start_promise};
 
 use crate::{layout, valid};
+use refusals::Refusal;
 
-#[derive(Clone, Copy)]
-pub enum Started {
-    Done,
-    Refused,
-    BadData,
-}
-
-// Begins the supervisor with start data, whose layout is that of the factory store's first bytes.
+// Begins the supervisor with start data, whose layout is that of the factory store's first bytes. The C interface lends
+// each part by itself.
+#[tactic(auto, unfolding(crate::specs::Calls::start_promise, crate::specs::Calls::long_enough))]
 pub fn start(
     data: &[u8; layout::START_LENGTH],
     reader: &mut [u8],
@@ -23,36 +19,29 @@ pub fn start(
     factory: &mut [u8],
     settings: &mut [u8],
     registers: &mut [u8],
-) -> Started
+) -> Result<(), Refusal>
     ensures { start_outcome result
         (parts reader.new outbox.new factory.new settings.new registers.new)
         ≡ start_promise «data».now
         (parts reader.old outbox.old factory.old settings.old registers.old) }
 {
-    if reader.len() < line::reader::STATE_LENGTH {
-        return Started::Refused;
-    }
-    if outbox.len() < layout::OUTBOX_LENGTH {
-        return Started::Refused;
-    }
-    if factory.len() < layout::FACTORY_LENGTH {
-        return Started::Refused;
-    }
-    if settings.len() < layout::SETTINGS_LENGTH {
-        return Started::Refused;
-    }
-    if registers.len() < layout::REGISTERS_LENGTH {
-        return Started::Refused;
+    if reader.len() < line::reader::STATE_LENGTH
+        || outbox.len() < layout::OUTBOX_LENGTH
+        || factory.len() < layout::FACTORY_LENGTH
+        || settings.len() < layout::SETTINGS_LENGTH
+        || registers.len() < layout::REGISTERS_LENGTH
+    {
+        return Err(Refusal::BadState);
     }
     if !valid::start_is_good(data) {
-        return Started::BadData;
+        return Err(Refusal::BadStart);
     }
-    line::reader::start(reader);
+    line::reader::start(reader)?;
     octets::clear(outbox, 0, layout::OUTBOX_LENGTH);
     set_factory(data, factory);
     octets::clear(settings, 0, layout::SETTINGS_LENGTH);
     set_registers(registers);
-    Started::Done
+    Ok(())
 }
 
 // The start data, then key 2's version and key 0's text.

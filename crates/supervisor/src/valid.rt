@@ -1,12 +1,14 @@
 // The tests for 11 and 12: start data, and each lent part.
 // The public functions assume nothing; the inner ones want bytes of the published length, as their `requires` say.
-ghost use Rattle.std.specs.Prelude.{◌≡◌, ◌+◌, ◌≤◌, length};
-ghost use Rattle.supervisor.specs.Local.{result_allowed, options_allowed};
-ghost use Rattle.supervisor.specs.Limits.{most_items, most_alerts, setting_count};
+ghost use Rattle.std.specs.Prelude.{◌≡◌, ◌+◌, ◌<◌, ◌≤◌, ◌&&◌, leb, length};
+ghost use Rattle.octets.specs.Bytes.{run, equal};
+ghost use Rattle.supervisor.specs.Local.{result_allowed, options_allowed, pong};
+ghost use Rattle.supervisor.specs.Limits.{SettingsKey, most_items, most_alerts, setting_count};
 ghost use Rattle.supervisor.specs.Layout.{start_length, settings_length, registers_length, setting_value_offset, record_length};
-ghost use Rattle.supervisor.specs.Layout.{alert_length};
-ghost use Rattle.supervisor.specs.Valid.{good_items, good_start, valid_outbox, valid_factory, valid_setting, valid_values};
-ghost use Rattle.supervisor.specs.Valid.{valid_settings, valid_record, valid_text, valid_alerts, valid_records_and_alerts, valid_registers};
+ghost use Rattle.supervisor.specs.Layout.{factory-length, pong_offset, alert_length, alert_count, retained_version, retained_alert_offset};
+ghost use Rattle.supervisor.specs.Valid.{good_item, good_items, good_start, valid_outbox, valid_factory, valid_setting, valid_value};
+ghost use Rattle.supervisor.specs.Valid.{valid_values, valid_settings, valid_record, valid_text, valid_alert, valid_alerts};
+ghost use Rattle.supervisor.specs.Valid.{valid_records_and_alerts, valid_registers};
 
 use crate::{layout, loads};
 
@@ -14,151 +16,137 @@ use crate::{layout, loads};
 fn result_is_allowed(res: usize) -> bool
     ensures { result ≡ result_allowed res }
 {
-    if res == layout::INVENTORY_ITEM {
-        return true;
-    }
-    if res == layout::INVENTORY_ABSENT {
-        return true;
-    }
-    res == layout::INVENTORY_FAILED
+    matches!(
+        res,
+        layout::INVENTORY_ITEM | layout::INVENTORY_ABSENT | layout::INVENTORY_FAILED
+    )
 }
 
-// Whether the first n items each have such a result and at most 64 bytes of data.
+// Whether item i has such a result and at most 64 bytes of data.
+#[tactic(auto, unfolding(crate::specs::Valid::good_item))]
+fn item_is_good(d: &[u8], i: u32) -> bool
+    requires i_lt_most_items { i < most_items }
+    requires start_length_in_bounds { start_length ≤ length d.now }
+    ensures { result ≡ good_item d.now i }
+{
+    let at = layout::ITEMS_OFFSET + i as usize * layout::ITEM_LENGTH;
+    result_is_allowed(loads::byte(d, at))
+        && loads::byte(d, at + layout::ITEM_DATA_LENGTH_OFFSET) <= layout::LONGEST_ITEM_DATA
+}
+
+// Whether the first n items are good.
 fn items_are_good(d: &[u8], n: u32) -> bool
     requires n_le_most_items { n ≤ most_items }
     requires start_length_in_bounds { start_length ≤ length d.now }
     ensures { result ≡ good_items d.now n }
 {
-    let mut at = layout::ITEMS_OFFSET;
-    let mut i = 0;
-    while i < n {
-        if !result_is_allowed(loads::byte(d, at)) {
-            return false;
-        }
-        if layout::LONGEST_ITEM_DATA < loads::byte(d, at + layout::ITEM_DATA_LENGTH_OFFSET) {
-            return false;
-        }
-        at += layout::ITEM_LENGTH;
-        i += 1;
-    }
-    true
+    (0..n).all(|i| item_is_good(d, i))
 }
 
+#[tactic(auto, unfolding(crate::specs::Valid::good_start))]
 pub(crate) fn start_is_good(d: &[u8]) -> bool
     requires { start_length ≤ length d.now }
     ensures { result ≡ good_start d.now }
 {
     let bsu = loads::byte(d, layout::BSU_OFFSET);
-    if bsu != layout::BSU_A {
-        if bsu != layout::BSU_B {
-            return false;
-        }
-    }
-    if layout::LONGEST_IMAGE_ID < loads::byte(d, layout::IMAGE_ID_LENGTH_OFFSET) {
-        return false;
-    }
     let count = loads::quad(d, layout::ITEM_COUNT_OFFSET);
-    if layout::MOST_ITEMS < count as usize {
-        return false;
-    }
-    items_are_good(d, count)
+    matches!(bsu, layout::BSU_A | layout::BSU_B)
+        && loads::byte(d, layout::IMAGE_ID_LENGTH_OFFSET) <= layout::LONGEST_IMAGE_ID
+        && count as usize <= layout::MOST_ITEMS
+        && items_are_good(d, count)
 }
 
+#[tactic(auto, unfolding(crate::specs::Valid::valid_outbox))]
 pub fn outbox_is_valid(outbox: &[u8]) -> bool
     ensures { result ≡ valid_outbox outbox.now }
 {
     if outbox.len() < layout::OUTBOX_LENGTH {
         return false;
     }
+    let from = loads::word(outbox, layout::OUTBOX_FROM_OFFSET);
     let to = loads::word(outbox, layout::OUTBOX_TO_OFFSET);
-    if to < loads::word(outbox, layout::OUTBOX_FROM_OFFSET) {
-        return false;
-    }
-    if layout::MOST_PENDING < to {
-        return false;
-    }
-    loads::byte(outbox, layout::OUTBOX_TERMINATOR_OWED_OFFSET) <= 1
+    from <= to
+        && to <= layout::MOST_PENDING
+        && loads::byte(outbox, layout::OUTBOX_TERMINATOR_OWED_OFFSET) <= 1
 }
 
+#[tactic(auto, unfolding(crate::specs::Valid::valid_factory))]
 pub fn factory_is_valid(factory: &[u8]) -> bool
     ensures { result ≡ valid_factory factory.now }
 {
     if factory.len() < layout::FACTORY_LENGTH {
         return false;
     }
-    if !start_is_good(factory) {
-        return false;
-    }
-    if loads::quad(factory, layout::INVENTORY_VERSION_OFFSET) != 0 {
-        return false;
-    }
-    octets::same(
-        factory,
-        layout::PONG_OFFSET,
-        b"pong",
-        0,
-        layout::PONG_LENGTH,
-    )
+    start_is_good(factory)
+        && loads::quad(factory, layout::INVENTORY_VERSION_OFFSET) == 0
+        && holds_pong(factory)
+}
+
+// The text of key 0.
+fn holds_pong(factory: &[u8]) -> bool
+    requires { factory-length ≤ length factory.now }
+    ensures { result ≡ equal (run pong_offset 4 factory.now) pong }
+{
+    factory[layout::PONG_OFFSET..].starts_with(b"pong")
 }
 
 // A value is held, as long as its key allows; or none is, and its length and its edition are 0.
+#[tactic(auto, unfolding(crate::specs::Valid::valid_setting))]
 fn setting_is_valid(settings: &[u8], at: usize, shortest: usize, longest: usize) -> bool
     requires { at + setting_value_offset ≤ length settings.now }
     ensures { result ≡ valid_setting settings.now at shortest longest }
 {
-    let held = loads::byte(settings, at);
     let n = loads::word(settings, at + layout::SETTING_LENGTH_OFFSET);
-    if held == 0 {
-        if n != 0 {
-            return false;
-        }
-        return loads::quad(settings, at + layout::SETTING_EDITION_OFFSET) == 0;
+    match loads::byte(settings, at) {
+        0 => n == 0 && loads::quad(settings, at + layout::SETTING_EDITION_OFFSET) == 0,
+        1 => shortest <= n && n <= longest,
+        _ => false,
     }
-    if held != 1 {
-        return false;
-    }
-    if n < shortest {
-        return false;
-    }
-    n <= longest
 }
 
+#[tactic(auto, unfolding(crate::specs::Valid::valid_settings))]
 pub fn settings_are_valid(settings: &[u8]) -> bool
     ensures { result ≡ valid_settings settings.now }
 {
-    if settings.len() < layout::SETTINGS_LENGTH {
-        return false;
-    }
-    values_are_valid(settings)
+    layout::SETTINGS_LENGTH <= settings.len() && values_are_valid(settings)
+}
+
+// Of a settings key.
+fn value_is_valid(settings: &[u8], key: u8) -> bool
+    requires settings_key { SettingsKey key }
+    requires settings_length_in_bounds { settings_length ≤ length settings.now }
+    ensures { result ≡ valid_value settings.now key }
+{
+    setting_is_valid(
+        settings,
+        layout::setting_offset(key),
+        layout::shortest_setting(key),
+        layout::longest_setting(key),
+    )
 }
 
 fn values_are_valid(settings: &[u8]) -> bool
     requires { settings_length ≤ length settings.now }
     ensures { result ≡ valid_values settings.now setting_count }
 {
-    let mut i = 0;
-    while i < layout::SETTING_COUNT {
-        let key = layout::FIRST_SETTING + i;
-        let at = layout::setting_offset(key);
-        let shortest = layout::shortest_setting(key);
-        if !setting_is_valid(settings, at, shortest, layout::longest_setting(key)) {
+    for key in layout::FIRST_SETTING..=layout::HIGHEST_KEY {
+        if !value_is_valid(settings, key) {
             return false;
         }
-        i += 1;
     }
     true
 }
 
+#[tactic(auto, unfolding(crate::specs::Valid::valid_record))]
 fn record_is_valid(registers: &[u8], at: usize, most: usize) -> bool
     requires { at + record_length ≤ length registers.now }
     ensures { result ≡ valid_record registers.now at most }
 {
-    if 1 < loads::byte(registers, at) {
-        return false;
-    }
-    loads::word(registers, at + layout::RECORD_WHOLE_OFFSET) <= most
+    loads::byte(registers, at) <= 1
+        && loads::word(registers, at + layout::RECORD_WHOLE_OFFSET) <= most
 }
 
+#[tactic(auto, unfolding(crate::specs::Valid::valid_text))]
 fn text_is_valid(registers: &[u8], at: usize) -> bool
     requires { at + alert_length ≤ length registers.now }
     ensures { result ≡ valid_text registers.now at }
@@ -166,24 +154,23 @@ fn text_is_valid(registers: &[u8], at: usize) -> bool
     loads::word(registers, at) <= layout::LONGEST_ALERT
 }
 
-fn alerts_are_valid(registers: &[u8], n: u8) -> bool
+#[tactic(auto, unfolding(crate::specs::Valid::valid_alert))]
+fn alert_is_valid(registers: &[u8], i: usize) -> bool
+    requires i_lt_most_alerts { i < most_alerts }
+    requires registers_length_in_bounds { registers_length ≤ length registers.now }
+    ensures { result ≡ valid_alert registers.now i }
+{
+    let at = layout::ALERTS_OFFSET + i * layout::ALERT_LENGTH;
+    text_is_valid(registers, at) && loads::byte(registers, at + layout::ALERT_ACTION_OFFSET) != 0
+}
+
+// The first n alerts.
+fn alerts_are_valid(registers: &[u8], n: usize) -> bool
     requires n_le_most_alerts { n ≤ most_alerts }
     requires registers_length_in_bounds { registers_length ≤ length registers.now }
     ensures { result ≡ valid_alerts registers.now n }
 {
-    let mut at = layout::ALERTS_OFFSET;
-    let mut i = 0;
-    while i < n {
-        if !text_is_valid(registers, at) {
-            return false;
-        }
-        if loads::byte(registers, at + layout::ALERT_ACTION_OFFSET) == 0 {
-            return false;
-        }
-        at += layout::ALERT_LENGTH;
-        i += 1;
-    }
-    true
+    (0..n).all(|i| alert_is_valid(registers, i))
 }
 
 // Whether the highest option bit set is at most 8: at least 55 zeros lead.
@@ -193,58 +180,48 @@ pub(crate) fn options_are_allowed(options: u64) -> bool
     u64::leading_zeros(options) >= layout::OPTION_ZEROS
 }
 
+#[tactic(auto, unfolding(crate::specs::Valid::valid_registers))]
 pub fn registers_are_valid(registers: &[u8]) -> bool
     ensures { result ≡ valid_registers registers.now }
 {
-    if registers.len() < layout::REGISTERS_LENGTH {
-        return false;
-    }
-    if 3 < loads::long(registers, layout::STATUS_OFFSET) {
-        return false;
-    }
-    if !options_are_allowed(loads::long(registers, layout::OPTIONS_OFFSET)) {
-        return false;
-    }
-    if 1 < loads::byte(registers, layout::REBOOT_OFFSET) {
-        return false;
-    }
-    if 1 < loads::byte(registers, layout::POWER_OFF_OFFSET) {
-        return false;
-    }
-    records_and_alerts_are_valid(registers)
+    layout::REGISTERS_LENGTH <= registers.len()
+        && loads::long(registers, layout::STATUS_OFFSET) <= 3
+        && options_are_allowed(loads::long(registers, layout::OPTIONS_OFFSET))
+        && loads::byte(registers, layout::REBOOT_OFFSET) <= 1
+        && loads::byte(registers, layout::POWER_OFF_OFFSET) <= 1
+        && records_and_alerts_are_valid(registers)
 }
 
+#[tactic(auto, unfolding(crate::specs::Valid::valid_records_and_alerts))]
 fn records_and_alerts_are_valid(registers: &[u8]) -> bool
     requires { registers_length ≤ length registers.now }
     ensures { result ≡ valid_records_and_alerts registers.now }
 {
-    if 255
-        < loads::word(
-            registers,
-            layout::BOOT_FAILURE_OFFSET + layout::RECORD_CODE_OFFSET,
-        )
-    {
-        return false;
-    }
-    if !record_is_valid(
+    let reason = loads::word(
         registers,
-        layout::BOOT_FAILURE_OFFSET,
-        layout::LONGEST_BOOT_FAILURE,
-    ) {
-        return false;
-    }
-    if !record_is_valid(registers, layout::PANIC_OFFSET, layout::LONGEST_PANIC) {
-        return false;
-    }
+        layout::BOOT_FAILURE_OFFSET + layout::RECORD_CODE_OFFSET,
+    );
+    reason <= 255
+        && record_is_valid(
+            registers,
+            layout::BOOT_FAILURE_OFFSET,
+            layout::LONGEST_BOOT_FAILURE,
+        )
+        && record_is_valid(registers, layout::PANIC_OFFSET, layout::LONGEST_PANIC)
+        && alerts_and_retained_are_valid(registers)
+}
+
+// The alerts that wait, and the reply that is retained.
+fn alerts_and_retained_are_valid(registers: &[u8]) -> bool
+    requires { registers_length ≤ length registers.now }
+    ensures { result ≡ (leb (alert_count registers.now) most_alerts
+        && (valid_alerts registers.now (alert_count registers.now)
+        && (leb (retained_version registers.now) 2
+        && valid_text registers.now retained_alert_offset))) }
+{
     let count = loads::byte(registers, layout::ALERT_COUNT_OFFSET);
-    if layout::MOST_ALERTS < count {
-        return false;
-    }
-    if !alerts_are_valid(registers, count as u8) {
-        return false;
-    }
-    if 2 < loads::byte(registers, layout::RETAINED_OFFSET) {
-        return false;
-    }
-    text_is_valid(registers, layout::RETAINED_ALERT_OFFSET)
+    count <= layout::MOST_ALERTS
+        && alerts_are_valid(registers, count)
+        && loads::byte(registers, layout::RETAINED_OFFSET) <= 2
+        && text_is_valid(registers, layout::RETAINED_ALERT_OFFSET)
 }

@@ -1,6 +1,7 @@
 // The local calls, each with its answer printed.
 // Assumes nothing: a write that fails ends the call with its error.
-use crate::case::{Own, PIECE_ROOM, Parts, first};
+use crate::own::PIECE_ROOM;
+use crate::parts::{Parts, lent};
 use crate::print;
 use saving::restore::restore;
 use saving::save::save;
@@ -18,24 +19,16 @@ const ROOM: usize = 4200;
 const ROOM_FILL: u8 = 0xee;
 
 // Take, into the first n bytes of a room of known contents.
-pub(crate) fn take_into(rt: &impl Print, n: usize, parts: Parts) -> io::Result<Parts> {
-    let mut next = parts;
-    let mut outbox = parts.outbox;
+pub(crate) fn take_into(rt: &impl Print, n: usize, parts: &mut Parts) -> io::Result<()> {
     let mut room = [ROOM_FILL; ROOM];
-    let lent = parts.lent;
-    let taken = take(first(&mut outbox, lent.outbox), first(&mut room, n));
-    print::taken(rt, taken, &room)?;
-    next.outbox = outbox;
-    Ok(next)
+    let taken = take(lent(&mut parts.outbox), &mut room[..n.min(ROOM)]);
+    print::put(rt, b" took", taken, &room)
 }
 
 // A lookup, by the line's fields.
-pub(crate) fn look_up(rt: &impl Print, line: &[u8], parts: Parts) -> io::Result<()> {
-    let factory_bytes = parts.factory;
-    let settings_bytes = parts.settings;
-    let lent = parts.lent;
-    let factory = octets::part(&factory_bytes, 0, lent.factory);
-    let settings = octets::part(&settings_bytes, 0, lent.settings);
+pub(crate) fn look_up(rt: &impl Print, line: &[u8], parts: &Parts) -> io::Result<()> {
+    let factory = parts.factory.used();
+    let settings = parts.settings.used();
     let key = fields::decimal_u8(line, 1);
     let most = fields::decimal_u16(line, 2);
     print::found(
@@ -45,73 +38,40 @@ pub(crate) fn look_up(rt: &impl Print, line: &[u8], parts: Parts) -> io::Result<
     )
 }
 
-// The edition of a key, by the line's fields.
-pub(crate) fn ask_edition(rt: &impl Print, line: &[u8], parts: Parts) -> io::Result<()> {
-    let factory_bytes = parts.factory;
-    let settings_bytes = parts.settings;
-    let lent = parts.lent;
-    let factory = octets::part(&factory_bytes, 0, lent.factory);
-    let settings = octets::part(&settings_bytes, 0, lent.settings);
-    print::edition(rt, edition(factory, settings, fields::decimal_u8(line, 1)))
+// The edition of a key.
+pub(crate) fn ask_edition(rt: &impl Print, key: u8, parts: &Parts) -> io::Result<()> {
+    let found = edition(parts.factory.used(), parts.settings.used(), key);
+    print::edition(rt, found)
 }
 
 // Save, into the first n bytes of a room of known contents.
-pub(crate) fn save_into(rt: &impl Print, n: usize, parts: Parts) -> io::Result<()> {
-    let settings = parts.settings;
-    let lent = parts.lent;
+pub(crate) fn save_into(rt: &impl Print, n: usize, parts: &Parts) -> io::Result<()> {
     let mut room = [ROOM_FILL; PIECE_ROOM];
-    let saved = save(
-        octets::part(&settings, 0, lent.settings),
-        first(&mut room, n),
-    );
-    print::saved(rt, saved, &room)
+    let saved = save(parts.settings.used(), &mut room[..n.min(PIECE_ROOM)]);
+    print::put(rt, b" saved", saved, &room)
 }
 
-// Restore, with the piece as the image.
-pub(crate) fn restore_from(rt: &impl Print, own: Own, parts: Parts) -> io::Result<Parts> {
-    let mut next = parts;
-    let mut settings = parts.settings;
-    let lent = parts.lent;
-    let piece = own.piece;
-    let image = octets::part(&piece, 0, own.piece_count);
-    print::restored(rt, restore(first(&mut settings, lent.settings), image))?;
-    next.settings = settings;
-    Ok(next)
+// Restore an image.
+pub(crate) fn restore_from(rt: &impl Print, image: &[u8], parts: &mut Parts) -> io::Result<()> {
+    print::restored(rt, restore(lent(&mut parts.settings), image))
 }
 
 // A call that is lent the registers alone, or the line's end.
 pub(crate) fn ask(
     rt: &impl Print,
     line: &[u8],
-    key: u8,
-    own: Own,
-    parts: Parts,
-) -> io::Result<Parts> {
-    let mut next = parts;
-    let mut registers = parts.registers;
-    let lent = parts.lent;
-    let piece = own.piece;
-    ask_registers(
-        rt,
-        line,
-        key,
-        octets::part(&piece, 0, own.piece_count),
-        first(&mut registers, lent.registers),
-    )?;
-    next.registers = registers;
-    Ok(next)
-}
-
-fn ask_registers(
-    rt: &impl Print,
-    line: &[u8],
-    key: u8,
     piece: &[u8],
     registers: &mut [u8],
 ) -> io::Result<()> {
-    match key {
-        b'p' => print::posted(rt, post(registers, fields::decimal_u8(line, 1), piece)),
-        b'o' => print::options(rt, set_options(registers, fields::hex(line, 1))),
+    match fields::key(line) {
+        b'p' => {
+            let posted = post(registers, fields::decimal_u8(line, 1), piece);
+            print::done(rt, b" posted", posted)
+        }
+        b'o' => {
+            let set = set_options(registers, fields::hex(line, 1));
+            print::done(rt, b" set", set)
+        }
         b's' => print::signal(rt, signal(registers)),
         b'f' => print::flags(rt, flags(registers)),
         b'e' => read_record(rt, kind_of(fields::count(line, 1)), registers),
@@ -121,10 +81,10 @@ fn ask_registers(
 }
 
 fn kind_of(n: usize) -> Kind {
-    if n == 0 {
-        return Kind::BootFailure;
+    match n {
+        0 => Kind::BootFailure,
+        _ => Kind::Panic,
     }
-    Kind::Panic
 }
 
 fn read_record(rt: &impl Print, kind: Kind, registers: &[u8]) -> io::Result<()> {

@@ -1,18 +1,19 @@
 -- The laws of fields, numbers, digests and pieces, by one byte more each.
 -- Assumes nothing.
-use Prim.Native.Nat.{ℕ, zero, suc, ◌+◌, ◌-◌, ◌*◌, ◌/◌, ◌%◌, ◌≤◌, ◌<◌}
+use Prim.Native.Nat.{ℕ, zero, suc, ◌+◌, ◌-◌, ◌*◌, ◌%◌, ◌≤◌, ◌<◌}
 use mathlib.Core.Path.{◌≡◌, refl, sym, ap, ◌∙◌}
 use mathlib.Core.Bool.{cond}
 use mathlib.Core.List.{List, [], ◌∷◌, ◌++◌}
-use native.Mathlib.Nat.{mul-le-mul, add-mul-mod_self_right}
+use native.Mathlib.Nat.{mul-le-mul}
 use native.Mathlib.Numerals.{add-one}
 use native.Mathlib.Omega.{arith}
 use lib.Dec.{eqb}
 use lib.ListN.{length, take, drop, set, get_or, length-append, length-drop, drop_of_length-le}
 use lib.Seq.{take_all, drop-cons}
 use borrow.Author.Tests.{ne_eqb, lt-ltb, le-ltb, le-leb, lt-leb}
+use Rattle.std.specs.List.{fold}
 use Rattle.octets.specs.Bytes.{number, run, number_at, overlay}
-use Rattle.octets.specs.Places.{LentBytes, place_in, part_place}
+use Rattle.octets.specs.Places.{LentBytes, Place, place_in, part_place}
 use Rattle.octets.proofs.Parts.{place-there}
 use Rattle.octets.proofs.Overlay.{overlay-take, overlay-more, put-fits, put-not}
 use Rattle.text_lines.specs.Fields.{field, digit, with_digit, with_digits, pair_at}
@@ -28,6 +29,10 @@ pub rest-place : (s : LentBytes) (at : ℕ) (t : List ℕ) → at ≤ length s.n
 rest-place s at t h e =
     let l = length-drop at s.now in
     sym (place-there s at h) ∙ ap (place_in s) (rw (← e, l) (omega arith))
+
+-- a part from the start of what stands 0 bytes behind a place
+pub room-start : (p : Place) (s : List ℕ) → part_place (record { ref_ptr = (p.0, p.1 + 0); now = s }) 0 ≡ p
+room-start p s = sym (place-there _ 0 (omega arith)) ∙ ap (λ at. (p.0, at)) (omega arith)
 
 pub drop-end : (i : ℕ) (s : List ℕ) → length s ≤ i → drop i s ≡ []
 drop-end i s h = drop_of_length-le s h
@@ -88,20 +93,10 @@ pair-past k text h = rw (byte_past (2 * k) text h, byte_past (2 * k + 1) text (o
 
 -- ---- digests
 
--- a digest may be cut before it takes a byte more
-pub digest-cut : (d b : ℕ) → (d % 65521 * 31 + b + 1) % 65521 ≡ (d * 31 + b + 1) % 65521
-digest-cut d b =
-    let e : d * 31 + b + 1 ≡ d % 65521 * 31 + b + 1 + d / 65521 * 31 * 65521 = omega arith in
-    sym (rw e (add-mul-mod_self_right (d % 65521 * 31 + b + 1) (d / 65521 * 31) 65521))
-
-pub digest-next : (d i : ℕ) (s : List ℕ) → i < length s
-    → digest_on d (drop i s) ≡ digest_on ((d * 31 + get_or s i 0 + 1) % 65521) (drop (i + 1) s)
+pub digest-fold : (d : ℕ) (s : List ℕ) → fold (λ d b. (d * 31 + b + 1) % 65521) d s ≡ digest_on d s
 unfolding digest_on
-digest-next d i s h = rw (add-one i, drop-cons s i 0 h)
-
-pub digest-end : (d i : ℕ) (s : List ℕ) → length s ≤ i → digest_on d (drop i s) ≡ d
-unfolding digest_on
-digest-end d i s h = rw (drop-end i s h)
+digest-fold d [] = refl
+digest-fold d (b ∷ s) = digest-fold ((d * 31 + b + 1) % 65521) s
 
 -- ---- pieces
 

@@ -9,18 +9,12 @@ const MODULUS: u32 = 65521;
 fn digest_more(d: u32, b: u8) -> u32
     ensures { result ≡ (d * 31 + b + 1) % 65521 }
 {
-    (d % MODULUS * 31 + b as u32 + 1) % MODULUS
+    (d % MODULUS * 31 + u32::from(b) + 1) % MODULUS
 }
 
 // The digest with more bytes; it begins with 0.
 pub fn digest_on(before: u32, s: &[u8]) -> u32
     ensures { result ≡ digest_on before s.now }
 {
-    let mut d = before;
-    let mut i = 0;
-    while i < s.len() {
-        d = digest_more(d, s[i]);
-        i += 1;
-    }
-    d
+    s.iter().fold(before, |d, b| digest_more(d, *b))
 }

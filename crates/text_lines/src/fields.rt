@@ -1,6 +1,6 @@
 // What stands in a line: its key, its fields, and the numbers in them.
 // Assumes nothing: a field that is missing is empty, and an empty field is the number 0.
-ghost use Rattle.std.specs.Prelude.{◌≡◌, cond, ◌-◌, ◌%◌, ◌≤◌, ◌<◌, eqb, length, drop};
+ghost use Rattle.std.specs.Prelude.{◌≡◌, ◌%◌, ◌≤◌, ◌<◌, length, drop};
 ghost use Rattle.text_lines.specs.Fields.{key_of, behind_key, field as field_of, digit as digit_of, with_digit, number_ahead, decimal_in};
 ghost use Rattle.text_lines.specs.Fields.{hex_in, pair_at, behind_key_place, field_place};
 
@@ -36,31 +36,20 @@ pub fn behind_key<'a>(line: &'a [u8]) -> &'a [u8]
     octets::part(line, KEY_LENGTH, line.len())
 }
 
-// How many spaces are left to pass behind a byte.
-fn spaces_left(b: u8, left: usize) -> usize
-    requires { 0 < left }
-    ensures { result ≡ cond (eqb b 32) (left - 1) left }
-{
-    if b == b' ' {
-        return left - 1;
-    }
-    left
-}
-
 // Where the field behind the k-th space begins.
 fn field_start(line: &[u8], k: usize) -> usize
     ensures { (drop result line.now ≡ field_of k line.now) × (result ≤ length line.now) }
 {
     let mut left = k;
-    let mut i = 0;
-    while i < line.len() {
+    for (i, b) in line.iter().enumerate() {
         if left == 0 {
             return i;
         }
-        left = spaces_left(line[i], left);
-        i += 1;
+        if *b == b' ' {
+            left -= 1;
+        }
     }
-    i
+    line.len()
 }
 
 // The field behind the k-th space, and all that follows it.
@@ -72,22 +61,15 @@ pub fn field<'a>(line: &'a [u8], k: usize) -> &'a [u8]
 }
 
 // The value of a hex digit, and HEX for any other byte.
+#[tactic(auto, unfolding(crate::specs::Fields::digit))]
 fn digit(b: u8) -> u64
     ensures { (result ≡ digit_of b) × (result ≤ 16) }
 {
-    if b < b'0' {
-        return HEX;
+    match b {
+        b'0'..=b'9' => u64::from(b - b'0'),
+        b'a'..=b'f' => u64::from(b - b'a') + DECIMAL,
+        _ => HEX,
     }
-    if b <= b'9' {
-        return (b - b'0') as u64;
-    }
-    if b < b'a' {
-        return HEX;
-    }
-    if b <= b'f' {
-        return (b - b'a') as u64 + DECIMAL;
-    }
-    HEX
 }
 
 // A number with one digit more.
@@ -103,15 +85,13 @@ fn number(text: &[u8], base: u64) -> u64
     requires { base ≤ 16 }
     ensures { result ≡ number_ahead base text.now }
 {
-    let mut value: u64 = 0;
-    let mut i = 0;
-    while i < text.len() {
-        let d = digit(text[i]);
+    let mut value = 0;
+    for b in text {
+        let d = digit(*b);
         if base <= d {
             return value;
         }
         value = with_digit(value, d, base);
-        i += 1;
     }
     value
 }
@@ -138,6 +118,7 @@ pub fn count(line: &[u8], k: usize) -> usize
 }
 
 // A number in the k-th field, cut to a width.
+// One line for each width: a cut generic in the width takes a trait with an impl for each.
 pub fn decimal_u8(line: &[u8], k: usize) -> u8
     ensures { result ≡ decimal_in k line.now % 256 }
 {

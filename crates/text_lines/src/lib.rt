@@ -2,6 +2,7 @@
 // The digest of bytes, and standard input and output. Assumes nothing: no public function has a `requires`.
 #![tactic(auto)]
 
+pub mod buffers;
 pub mod digest;
 pub mod fields;
 pub mod pieces;

@@ -6,47 +6,38 @@ ghost use Rattle.text_lines.specs.Pieces.{last_again, adds, added_at, room_after
 use crate::fields;
 
 // How many bytes a line adds.
+#[tactic(auto, unfolding(crate::specs::Pieces::adds))]
 fn how_many(line: &[u8]) -> usize
     ensures { result ≡ adds line.now }
 {
-    let key = fields::key(line);
-    if key == b'+' {
-        return fields::behind_key(line).len() / 2;
+    match fields::key(line) {
+        b'+' => fields::behind_key(line).len() / 2,
+        b'*' | b'<' => fields::count(line, 2),
+        _ => 0,
     }
-    if key == b'*' {
-        return fields::count(line, 2);
-    }
-    if key == b'<' {
-        return fields::count(line, 2);
-    }
-    0
 }
 
 // The j-th of the piece's last bytes, as many as back says, again and again.
+#[tactic(auto, unfolding(crate::specs::Pieces::last_again))]
 fn last_again(piece: &[u8], back: usize, j: usize) -> u8
     ensures { result ≡ last_again back piece.now j }
 {
     if back == 0 {
         return 0;
     }
-    if piece.len() < back {
-        return octets::read_u8(piece, j % back);
-    }
-    octets::read_u8(piece, piece.len() - back + j % back)
+    octets::read_u8(piece, piece.len().saturating_sub(back) + j % back)
 }
 
 // The j-th byte that a line adds to a piece.
+#[tactic(auto, unfolding(crate::specs::Pieces::added_at))]
 fn added_at(line: &[u8], piece: &[u8], j: usize) -> u8
     ensures { result ≡ added_at line.now piece.now j }
 {
-    let key = fields::key(line);
-    if key == b'+' {
-        return fields::pair(fields::behind_key(line), j);
+    match fields::key(line) {
+        b'+' => fields::pair(fields::behind_key(line), j),
+        b'*' => fields::hex_u8(line, 1),
+        _ => last_again(piece, fields::count(line, 1), j),
     }
-    if key == b'*' {
-        return fields::hex_u8(line, 1);
-    }
-    last_again(piece, fields::count(line, 1), j)
 }
 
 // Adds what the line says to the room's first n bytes; how many they are then.
@@ -55,17 +46,12 @@ pub fn add(line: &[u8], room: &mut [u8], n: usize) -> usize
         × (room.new ≡ room_after line.now room.old n) }
 {
     let more = how_many(line);
-    if room.len() < n {
+    if room.len() < n || room.len() - n < more {
         return n;
     }
-    if room.len() - n < more {
-        return n;
-    }
-    let mut j = 0;
-    while j < more {
-        let byte = added_at(line, octets::part(room, 0, n), j);
+    for j in 0..more {
+        let byte = added_at(line, &room[..n], j);
         room[n + j] = byte;
-        j += 1;
     }
     n + more
 }

@@ -1,22 +1,17 @@
 // Lines of an input, and printing, each number with one space in front.
 // No contract says what is read or printed; what is lent to be printed stays as it is.
 // Assumes nothing: a read or a write that fails ends the call with its error.
-ghost use Rattle.std.specs.Prelude.{◌≤◌, ◌≡◌, IfOk, length};
+ghost use Rattle.std.specs.Prelude.{◌<◌, ◌≤◌, ◌≡◌, IfOk, length};
+ghost use Rattle.std.specs.Iterator.{at_most};
+ghost use Rattle.octets.specs.Bytes.{run};
 
 use crate::digest::digest_on;
 use crate::fields;
 use std::io;
 use std::io::Read;
 
-// Refusals by their numbers in document 01.
-pub const NO_ROOM: u64 = 8;
-
-pub const TOO_LONG: u64 = 9;
-
-pub const REFUSED: u64 = 12;
-
 // More lines than any input has.
-pub const MOST_LINES: u64 = 1000000;
+const MOST_LINES: u64 = 1000000;
 
 // A line longer than this is taken in pieces.
 pub const LINE_ROOM: usize = 128;
@@ -29,17 +24,75 @@ pub fn read_line<R: Read>(input: &mut R, room: &mut [u8]) -> io::Result<usize>
     ensures count { IfOk result (λ n. n ≤ length room.old) }
     ensures room { length room.new ≡ length room.old }
 {
-    let mut n = 0;
-    while n < room.len() {
+    for n in 0..room.len() {
         if input.read(&mut room[n..n + 1])? == 0 {
             return Ok(0);
         }
         if room[n] == b'\n' {
             return Ok(n);
         }
-        n += 1;
     }
-    Ok(n)
+    Ok(room.len())
+}
+
+// A line of an input, without its end.
+#[derive(Clone, Copy)]
+pub struct Line {
+    room: [u8; LINE_ROOM],
+    count: usize,
+    ghost count_bounds: { (0 < count) × (count ≤ 128) },
+}
+
+impl Line {
+    // Its bytes: at least one, and at most as many as the room.
+    pub fn text(&self) -> &[u8]
+        ensures result_value { result.now ≡ run 0 self.now.count self.now.room }
+        ensures count { (0 < length result.now) × (length result.now ≤ 128) }
+        ensures ref_ptr_value { result.ref_ptr ≡ self.entry.ref_ptr }
+    {
+        &self.room[..self.count]
+    }
+}
+
+// The lines of an input, up to its end or an empty line.
+#[derive(Drop)]
+pub struct Lines<'a, R> {
+    input: &'a mut R,
+    left: u64,
+}
+
+impl<'a, R: Read> Lines<'a, R> {
+    pub fn new(input: &'a mut R) -> Lines<'a, R>
+        ensures input { result.input.ghost_name ≡ input.entry.ghost_name }
+        ensures left { result.left ≡ 1000000 }
+    {
+        Lines {
+            input,
+            left: MOST_LINES,
+        }
+    }
+}
+
+impl<R: Read> Iterator for Lines<'_, R> {
+    type Item = io::Result<Line>;
+
+    ghost remaining = { λ s. at_most s.left };
+
+    fn next(&mut self) -> Option<io::Result<Line>> {
+        if self.left == 0 {
+            return None;
+        }
+        self.left -= 1;
+        let mut room = [0; LINE_ROOM];
+        let count = match read_line(self.input, &mut room) {
+            Ok(count) => count,
+            Err(why) => return Some(Err(why)),
+        };
+        if count == 0 {
+            return None;
+        }
+        Some(Ok(Line { room, count }))
+    }
 }
 
 pub fn word(rt: &impl Print, s: &[u8]) -> io::Result<()>
@@ -80,7 +133,7 @@ pub fn refused(rt: &impl Print, n: u64) -> io::Result<()>
 pub fn digest(rt: &impl Print, s: &[u8]) -> io::Result<()>
     ensures { IfOk result (λ done. (done ≡ tt) × (s.now ≡ s.now)) }
 {
-    number(rt, digest_on(0, s) as u64)
+    number(rt, u64::from(digest_on(0, s)))
 }
 
 // The bytes in hex.
@@ -97,7 +150,7 @@ pub fn bytes(rt: &impl Print, s: &[u8]) -> io::Result<()>
     ensures { IfOk result (λ done. (done ≡ tt) × (s.now ≡ s.now)) }
 {
     number(rt, s.len() as u64)?;
-    if s.len() == 0 {
+    if s.is_empty() {
         return Ok(());
     }
     digits(rt, octets::part(s, 0, MOST_DIGITS))?;

@@ -21,14 +21,13 @@ pub loop-i-init : goal.loop-i-init
 loop-i-init c =
     let base = c.args.base in
     let bytes : (i : ℕ) → Fits w8 (get_or base i 0) = λ i. search rules in
-    (search rules, rows_none _ _, address-first base _ (search rules) (λ i. (bytes i).fits))
+    (rows_none _ _, address-first base _ (search rules) (λ i. (bytes i).fits))
 
 pub loop-i-preserved : goal.loop-i-preserved
 loop-i-preserved c =
     let l = c.loop-i in (
-      search rules,
-      rw (l.invariant.1, l.invariant.2) (rows_more _ _ l.i (search rules)),
-      rw (c.next_row-next.ensures, l.invariant.2, next_sum, address-next),
+      rw (l.invariant.0, l.invariant.1) (rows_more _ _ l.i (search rules)),
+      rw (c.next_row-next.ensures, l.invariant.1, next_sum, address-next),
     )
 
 pub returns : goal.returns
@@ -36,4 +35,4 @@ returns c =
     let l = c.loop-i in
     let a = c.args in
     let e : l.i ≡ min a.count 8 = omega arith in
-    rw (l.invariant.1, e) (rows-fitting a.base a.stride a.count (sym c.last_passes.ensures ∙ c.if-last_passes.false))
+    rw (l.invariant.0, e) (rows-fitting a.base a.stride a.count (sym c.last_passes.ensures ∙ c.if-last_passes.false))

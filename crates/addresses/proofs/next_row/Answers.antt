@@ -1,26 +1,10 @@
--- `addresses::next_row` meets its contract. The loop's invariant: what is left of the row is still to be added, with the carry.
+-- `addresses::next_row` meets its contract: the bytes of the row's number and the stride.
 -- Assumes nothing.
-use mathlib.Core.Path.{◌≡◌, sym, ◌∙◌}
-use borrow.Author.Rules.{rules}
-use native.Mathlib.Omega.{arith}
-use Rattle.addresses.proofs.Carry.{rest_all, rest-none, rest-less}
+use Rattle.std.proofs.Common.{rules}
+use Rattle.addresses.proofs.Carry.{next-six}
 use Rattle.addresses.proofs.next_row.Goals as goal
-
-pub loop-left-init : goal.loop-left-init
-loop-left-init c =
-    (search rules, search rules, search rules, rw c.wide-carry.ensures.0 (rest_all 6 _ _ (search rules)))
-
-pub loop-left-preserved : goal.loop-left-preserved
-loop-left-preserved c =
-    let l = c.loop-left in (
-      search rules,
-      search rules,
-      search rules,
-      rw (l.invariant.3, c.wide.ensures.0) (rest-less l.left l.next l.carry (search rules) (search rules)),
-    )
 
 pub returns : goal.returns
 returns c =
-    let l = c.loop-left in
-    let e : l.left ≡ 0 = omega arith in
-    sym (l.invariant.3 ∙ rw e (rest-none l.next l.carry))
+    let a = c.args in
+    rw (c.to_be_bytes.ensures, c.number_of.ensures.0, c.from.ensures) (next-six a.row a.stride (search rules) (λ i. search rules))

@@ -1,37 +1,19 @@
--- `move_down` meets its contract. The loop's invariant: the first i bytes of the run are put, and those still to be read are as they were.
+-- `move_down` meets its contract.
 -- Assumes nothing.
-use mathlib.Core.Path.{◌≡◌, sym}
-use borrow.Author.Rules.{rules}
-use native.Mathlib.Omega.{arith}
-use Rattle.octets.proofs.Overlay.{overlay-none, overlay-down-more, moved_down-fits, moved_down-not, moved_down-up}
+use Rattle.std.proofs.Common.{sym, ◌∙◌, arith}
+use Rattle.octets.proofs.Overlay.{part-moved, fits-true, moved_down-fits, moved_down-none, moved_down-up}
 use Rattle.octets.proofs.move_down.Goals as goal
+use Rattle.octets.proofs.move_down.Goals.{else-to-from-via-then-to-from+else-fits, else-to-from-via-else-to-from}
 
-pub returns-then-from-to : goal.returns-then-from-to
-returns-then-from-to c =
-    sym (moved_down-up _ _ _ _ (search rules))
+pub returns-then-fits : goal.returns-then-fits
+returns-then-fits c = c.copy_within.ensures.after
+    ∙ part-moved _ _ _ _ (fits-true _ _ _ (sym c.fits.ensures ∙ c.if-fits.true))
+    ∙ sym (moved_down-fits _ _ _ _ c.if-to-from.true (fits-true _ _ _ (sym c.fits.ensures ∙ c.if-fits.true)))
 
-pub returns-then-s-from : goal.returns-then-s-from
-returns-then-s-from c =
-    sym (moved_down-not _ _ _ _ (search rules))
-
-pub returns-then-s-from-2 : goal.returns-then-s-from-2
-returns-then-s-from-2 c =
-    sym (moved_down-not _ _ _ _ (search rules))
-
-pub loop-i-init : goal.loop-i-init
-loop-i-init c =
-    (search rules, search rules, sym (overlay-none _ _))
-
-pub loop-i-preserved : goal.loop-i-preserved
-loop-i-preserved c =
-    let l = c.loop-i in
-    let a = c.args in (
-      search rules,
-      search rules,
-      rw l.invariant.2 (overlay-down-more a.from a.to l.i a.s.now (search rules) (search rules)),
-    )
-
-pub returns : goal.returns
-returns c =
-    let e : c.loop-i.i ≡ c.args.n = omega arith in
-    rw (c.loop-i.invariant.2, e) (sym (moved_down-fits _ _ _ _ (search rules) (search rules)))
+pub returns-else-to-from : goal.returns-else-to-from
+returns-else-to-from c =
+    let a = c.args in
+    elim c.else-to-from.branch [
+      | else-to-from-via-then-to-from+else-fits w ↦ sym (moved_down-none a.s.now a.from a.to a.n (sym w.fits.ensures ∙ w.if-fits.false))
+      | else-to-from-via-else-to-from w ↦ sym (moved_down-up a.s.now a.from a.to a.n (omega arith))
+    ]

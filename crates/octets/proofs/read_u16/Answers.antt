@@ -1,13 +1,8 @@
--- `read_u16` meets its contract: its two halves are joined.
+-- `read_u16` meets its contract: of 2 bytes the number is their sum, each by its worth.
 -- Assumes nothing.
-use Rattle.octets.proofs.Numbers.{number-none, number-join}
+use Rattle.std.proofs.Common.{◌∙◌, rules}
+use Rattle.octets.proofs.Numbers.{number-of_2}
 use Rattle.octets.proofs.read_u16.Goals as goal
 
-pub returns-then-s-at : goal.returns-then-s-at
-returns-then-s-at c =
-    number-none 2 _ _ c.if-s-at.true
-
 pub returns : goal.returns
-returns c =
-    let a = c.args in
-    rw (c.read_u8-high.ensures, c.read_u8-low.ensures) (number-join 1 1 a.s.now a.at)
+returns c = c.from_le_bytes.ensures ∙ (number-of_2 c.bytes_at.result (search rules) ∙ c.bytes_at.ensures)

@@ -1,13 +1,8 @@
--- `read_u64` meets its contract: its two halves are joined.
+-- `read_u64` meets its contract: of 8 bytes the number is their sum, each by its worth.
 -- Assumes nothing.
-use Rattle.octets.proofs.Numbers.{number-none, number-join}
+use Rattle.std.proofs.Common.{◌∙◌, rules}
+use Rattle.octets.proofs.Numbers.{number-of_8}
 use Rattle.octets.proofs.read_u64.Goals as goal
 
-pub returns-then-s-at : goal.returns-then-s-at
-returns-then-s-at c =
-    number-none 8 _ _ c.if-s-at.true
-
 pub returns : goal.returns
-returns c =
-    let a = c.args in
-    rw (c.read_u32-high.ensures, c.read_u32-low.ensures) (number-join 4 4 a.s.now a.at)
+returns c = c.from_le_bytes.ensures ∙ (number-of_8 c.bytes_at.result (search rules) ∙ c.bytes_at.ensures)

@@ -2,22 +2,20 @@
 -- Assumes nothing.
 use mathlib.Core.Path.{refl}
 use native.Mathlib.Omega.{arith}
-use borrow.Author.Rules.{rules}
 use Rattle.line.specs.Checksum.{checksum}
 use Rattle.line.proofs.Checksum.{sums-end}
 use Rattle.plain.proofs.Tests.{sums_next}
 use Rattle.plain.proofs.checksum.Goals as goal
 
-pub loop-i-init : goal.loop-i-init
+pub loop-b-init : goal.loop-b-init
 unfolding checksum
-loop-i-init c =
-    (search rules, search rules, refl)
+loop-b-init c =
+    (omega arith, omega arith, refl)
 
-pub loop-i-preserved : goal.loop-i-preserved
-loop-i-preserved c =
-    let l = c.loop-i in
-    (omega arith, omega arith, sums_next _ l.i _ _ c.loop-i-test.true c.wide.ensures.0 l.invariant.2)
+pub loop-b-preserved : goal.loop-b-preserved
+loop-b-preserved c =
+    (omega arith, omega arith, sums_next c.args.body.now c.loop-b.b-index _ _ (omega arith) c.from.ensures c.loop-b.invariant.2)
 
 pub returns : goal.returns
 returns c =
-    sums-end _ _ _ _ c.loop-i-test.false c.loop-i.invariant.2
+    sums-end c.args.body.now c.loop-b.b-index _ _ (omega arith) c.loop-b.invariant.2

@@ -3,67 +3,43 @@
 -- Assumes nothing.
 use mathlib.Core.Path.{refl, sym, ◌∙◌}
 use native.Mathlib.Omega.{arith}
-use lib.ListN.{get_or, length-set}
-use borrow.Author.Rules.{rules}
-use Rattle.plain.proofs.Groups.{middle-start, middle-byte, middle-code, stop-zero, stop-last, stop-past, stop-end}
+use Rattle.plain.proofs.Groups.{middle-start, middle-byte, middle-code, stop-zero, stop-last, stop-past, stop-end, slice-behind}
+use Rattle.plain.proofs.decode.Goals.{then-left-gt0, else-left-gt0+else-b-eq0+else-last_one_after_full}
+use Rattle.plain.proofs.decode.Goals.{then-b-eq0-via-then-b-eq0, then-b-eq0-via-else-b-eq0+then-last_one_after_full}
 use Rattle.plain.proofs.decode.Goals as goal
 
 pub loop-i-init : goal.loop-i-init
-loop-i-init c =
-    (search rules, refl, middle-start _ _)
-
-pub loop-i-preserved-then-left-gt0 : goal.loop-i-preserved-then-left-gt0
-loop-i-preserved-then-left-gt0 c =
-    let iteration = c.loop-i in (
-      search rules,
-      simp length-set iteration.invariant.1,
-      middle-byte c.args.form.now c.args.out.now iteration.out iteration.left iteration.zero iteration.n
-          iteration.i iteration.invariant.2 c.loop-i-test.true _ refl c.if-left-gt0.true (omega arith),
-    )
-
-pub returns-then-b-eq0 : goal.returns-then-b-eq0
-returns-then-b-eq0 c =
-    let iteration = c.loop-i in
-    let r =
-    stop-zero c.args.form.now c.args.out.now iteration.out iteration.left iteration.zero iteration.n
-    iteration.i iteration.invariant.2 c.loop-i-test.true (get_or c.args.form.now iteration.i 0) refl c.if-left-gt0.false c.if-b-eq0.true in
-    record { value = r.0; out_after = r.1 }
-
-pub returns-then-last_one_after_full : goal.returns-then-last_one_after_full
-returns-then-last_one_after_full c =
-    let iteration = c.loop-i in
-    let r =
-    stop-last c.args.form.now c.args.out.now iteration.out iteration.left iteration.zero iteration.n
-    iteration.i iteration.invariant.2
-    c.loop-i-test.true (get_or c.args.form.now iteration.i 0) refl c.if-left-gt0.false
-    (sym c.if-last_one_after_full.true ∙ c.last_one_after_full.ensures) in
-    record { value = r.0; out_after = r.1 }
+loop-i-init c = middle-start _ _
 
 pub loop-i-preserved : goal.loop-i-preserved
 loop-i-preserved c =
-    let iteration = c.loop-i in (
-      search rules,
-      omega arith,
-      rw c.wide-left.ensures.0
-          (middle-code c.args.form.now c.args.out.now iteration.out iteration.left iteration.zero
-          iteration.n iteration.i iteration.invariant.2
-          c.loop-i-test.true _ refl c.if-left-gt0.false c.if-b-eq0.false
-          (sym c.if-last_one_after_full.false ∙ c.last_one_after_full.ensures) (omega arith) c.put_zero-n.ensures.0
-          c.put_zero-n.ensures.1),
-    )
+    let l = c.loop-i in
+    elim c.if-left-gt0.branch [
+      | then-left-gt0 w ↦
+          rw (w.out-is, w.left-is, w.zero-is, w.n-is)
+          (middle-byte _ _ _ _ _ _ _ l.invariant c.loop-i-test.true _ refl w.if-left-gt0.true (omega arith))
+      | else-left-gt0+else-b-eq0+else-last_one_after_full w ↦
+          rw (w.out-is, w.left-is, w.zero-is, w.n-is, w.from-left.ensures)
+          (middle-code _ _ _ _ _ _ _ l.invariant c.loop-i-test.true _ refl w.if-left-gt0.false w.if-b-eq0.false
+          (rw (slice-behind _ _) at (sym w.if-last_one_after_full.false ∙ w.last_one_after_full.ensures)) (omega arith)
+          w.put_zero-n.ensures.0 w.put_zero-n.ensures.1)
+    ]
+
+pub returns-then-b-eq0 : goal.returns-then-b-eq0
+returns-then-b-eq0 c =
+    let l = c.loop-i in
+    elim c.then-b-eq0.branch [
+      | then-b-eq0-via-then-b-eq0 w ↦
+          stop-zero _ _ _ _ _ _ _ l.invariant c.loop-i-test.true _ refl c.if-left-gt0.false w.if-b-eq0.true
+      | then-b-eq0-via-else-b-eq0+then-last_one_after_full w ↦
+          stop-last _ _ _ _ _ _ _ l.invariant c.loop-i-test.true _ refl c.if-left-gt0.false
+          (rw (slice-behind _ _) at (sym w.if-last_one_after_full.true ∙ w.last_one_after_full.ensures))
+    ]
 
 pub returns-then-left-gt0-2 : goal.returns-then-left-gt0-2
 returns-then-left-gt0-2 c =
-    let iteration = c.loop-i in
-    let r =
-    stop-past c.args.form.now c.args.out.now iteration.out iteration.left iteration.zero iteration.n
-    iteration.i iteration.invariant.2 c.loop-i-test.false c.if-left-gt0-2.true in
-    record { value = r.0; out_after = r.1 }
+    stop-past _ _ _ _ _ _ _ c.loop-i.invariant c.loop-i-test.false c.if-left-gt0-2.true
 
 pub returns : goal.returns
 returns c =
-    let iteration = c.loop-i in
-    let r =
-    stop-end c.args.form.now c.args.out.now iteration.out iteration.left iteration.zero iteration.n
-    iteration.i iteration.invariant.2 c.loop-i-test.false c.if-left-gt0-2.false in
-    record { value = r.0; out_after = r.1 }
+    stop-end _ _ _ _ _ _ _ c.loop-i.invariant c.loop-i-test.false c.if-left-gt0-2.false

@@ -1,6 +1,7 @@
 -- `plain::tested` meets its contract.
 -- Assumes nothing.
 use mathlib.Core.Path.{sym}
+use mathlib.Core.Logic.{inl, inr}
 use Prim.Native.Nat.{◌-◌}
 use native.Mathlib.Omega.{arith}
 use lib.Seq.{length-take-le}
@@ -11,12 +12,11 @@ use Rattle.plain.proofs.tested.Goals as goal
 pub returns-then-n-lt-SHORTEST_MESSAGE : goal.returns-then-n-lt-SHORTEST_MESSAGE
 unfolding plain_verdict
 returns-then-n-lt-SHORTEST_MESSAGE c =
-    tested-short c.args.message.now c.args.n c.requires c.if-n-lt-SHORTEST_MESSAGE.true
-
-pub returns-then-n-gt-LONGEST_MESSAGE : goal.returns-then-n-gt-LONGEST_MESSAGE
-unfolding plain_verdict
-returns-then-n-gt-LONGEST_MESSAGE c =
-    tested-long c.args.message.now c.args.n c.requires c.if-n-gt-LONGEST_MESSAGE.true
+    let a = c.args in
+    elim c.then-n-lt-SHORTEST_MESSAGE.either [
+      | inl short ↦ tested-short a.message.now a.n c.requires short
+      | inr long ↦ tested-long a.message.now a.n c.requires long.1
+    ]
 
 pub slice_bounds-checksum-length : goal.slice_bounds-checksum-length
 slice_bounds-checksum-length c =

@@ -1,31 +1,24 @@
--- `probes::changes_are_good` meets its contract: the whole test comes to that of the changes from offset i on.
+-- `probes::changes_are_good` meets its contract: with as many results as indices, all pairs are good.
 -- Assumes nothing.
-use mathlib.Core.Path.{sym, ◌∙◌}
-use native.Mathlib.Omega.{arith}
-use Rattle.probes.proofs.Tests.{other-lengths, equal-lengths, good-here, bad-here, good-end}
+use Rattle.std.proofs.Common.{rules, sym, ◌∙◌, ne_eqb}
+use Rattle.std.proofs.lemmas.Iterator.{YieldsList-from_slice, YieldsList-from_zip}
+use Rattle.std.proofs.lemmas.Iterator.Search.{all_from_yields_List}
+use Rattle.probes.proofs.Tests.{other-lengths, equal-lengths, good_pair, good-pairs}
+use borrow.Author.Tests.{tests}
 use Rattle.probes.proofs.changes_are_good.Goals as goal
 
 pub returns-then-indices-results : goal.returns-then-indices-results
 returns-then-indices-results c =
-    sym (other-lengths _ _ _ c.if-indices-results.true)
+    let n = c.args.length in
+    let is = c.args.indices.now in
+    let rs = c.args.results.now in
+    all_from_yields_List (good_pair n) c.all.new.self _ c.all.result c.all.ensures.ran
+    (YieldsList-from_zip (YieldsList-from_slice is cc) (YieldsList-from_slice rs cc)) (λ x b q k. search (rules, tests))
+    ∙ (good-pairs n is rs ∙ sym (equal-lengths n is rs c.if-indices-results.true))
 
-pub loop-i-init : goal.loop-i-init
-loop-i-init c =
-    (c.if-indices-results.false, equal-lengths _ _ _ c.if-indices-results.false)
-
-pub returns-then-not-is_good : goal.returns-then-not-is_good
-returns-then-not-is_good c =
-    sym (c.loop-i.invariant.1
-    ∙ bad-here _ _ _ _ c.loop-i-test.true (omega arith) (sym c.is_good.ensures ∙ c.if-not-is_good.true))
-
-pub loop-i-preserved : goal.loop-i-preserved
-loop-i-preserved c = (
-  c.loop-i.invariant.0,
-  c.loop-i.invariant.1
-      ∙ good-here _ _ _ _ c.loop-i-test.true (omega arith) (sym c.is_good.ensures ∙ c.if-not-is_good.false),
-)
-
-pub returns : goal.returns
-returns c =
-    let args = c.args in
-    sym (c.loop-i.invariant.1 ∙ good-end args.length args.indices.now args.results.now c.loop-i.i (omega arith))
+pub returns-else-indices-results : goal.returns-else-indices-results
+returns-else-indices-results c =
+    let is = c.args.indices.now in
+    let rs = c.args.results.now in
+    let f = c.if-indices-results.false in
+    ne_eqb _ _ f ∙ sym (other-lengths c.args.length is rs f)

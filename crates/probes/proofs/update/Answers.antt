@@ -1,12 +1,10 @@
 -- `probes::update` meets its contract: what the changes leave that are made one after the other is what is promised.
 -- Assumes nothing.
-use Rattle.std.proofs.Common.{◌≡◌, Bool, true, false, sym, ◌∙◌, ap, subst, length, arith}
+use Rattle.std.proofs.Common.{◌≡◌, Bool, true, false, sym, ◌∙◌, ap, subst, Ok, [], inl, inr}
 use mathlib.Core.Bool.{not}
 use lib.Dec.{T}
-use Rattle.probes.specs.Probes.{update_outcome}
-use Rattle.probes.specs.declared.Updated.TheVariants.{Done}
-use Rattle.probes.proofs.Changes.{applied-more, applied-end, update_done, update_refused}
-use Rattle.probes.proofs.Tests.{good-lengths}
+use Rattle.probes.specs.Probes.{probe_changes, update_outcome}
+use Rattle.probes.proofs.Changes.{applied, none-left, update_done, update_refused}
 use Rattle.probes.proofs.update.Goals as goal
 
 holds : {b c : Bool} → b ≡ c → b ≡ true → T c
@@ -19,23 +17,24 @@ pub returns-then-not-changes_are_good : goal.returns-then-not-changes_are_good
 returns-then-not-changes_are_good c =
     update_refused c.args.list.now c.args.indices.now c.args.results.now (fails c.changes_are_good.ensures c.if-not-changes_are_good.true)
 
-pub bounds-results-i : goal.bounds-results-i
-bounds-results-i c =
-    let e =
-    good-lengths (length c.args.list.now) c.args.indices.now c.args.results.now
-    (holds c.changes_are_good.ensures c.if-not-changes_are_good.false) in
-    omega (arith, e)
+pub loop-index-init : goal.loop-index-init
+loop-index-init c =
+    let zip = c.zip-index-items.ensures in
+    rw (c.into_iter-index-iterator.ensures.into_iter_gives, zip.first, zip.second.0, c.iter.ensures.rest)
 
-pub loop-i-preserved : goal.loop-i-preserved
-loop-i-preserved c =
-    let e =
-    good-lengths (length c.args.list.now) c.args.indices.now c.args.results.now
-    (holds c.changes_are_good.ensures c.if-not-changes_are_good.false) in
-    rw c.set_result.ensures
-    (applied-more c.loop-i.list c.args.indices.now c.args.results.now c.loop-i.i _ (omega arith) (omega arith) (omega (arith, e))
-    ∙ c.loop-i.invariant)
+pub loop-index-preserved : goal.loop-index-preserved
+unfolding applied probe_changes
+loop-index-preserved c =
+    let next = c.in-Some.ensures.steps in
+    rw c.set_result.ensures (rw (next.0, next.1) at c.loop-index.invariant)
 
 pub returns : goal.returns
+unfolding applied
 returns c =
-    ap (update_outcome Done) (applied-end c.loop-i.list c.args.indices.now c.args.results.now c.loop-i.i (omega arith) ∙ c.loop-i.invariant)
+    let l = c.loop-index in
+    let a = l.index-iterator.a.rest.now in
+    let b = l.index-iterator.b.rest.now in
+    let e : probe_changes a b ≡ [] =
+    elim c.in-None.ensures.steps [ inl x ↦ none-left a b (inl x.1.0) | inr x ↦ none-left a b (inr x.1.0) ] in
+    ap (update_outcome (Ok tt)) (rw e at l.invariant)
     ∙ update_done c.args.list.now c.args.indices.now c.args.results.now (holds c.changes_are_good.ensures c.if-not-changes_are_good.false)

@@ -1,30 +1,22 @@
 -- `copy_group` meets its contract.
 -- Assumes nothing.
+use mathlib.Core.Path.{◌≡◌, ◌∙◌}
+use native.Mathlib.Nat.{add-sub_cancel_left}
 use native.Mathlib.Omega.{arith}
-use lib.ListN.{drop}
-use Rattle.line.proofs.Runs.{nonzero-most}
+use Rattle.octets.specs.Bytes.{run}
+use Rattle.octets.proofs.Overlay.{length_run}
+use Rattle.line.proofs.Rest.{part-overlay}
 use Rattle.line.proofs.cobs.copy_group.Goals as goal
 
-pub copy_run-requires : goal.copy_run-requires
-copy_run-requires c =
-    record { within = (omega arith, omega arith); within_2 = (omega arith, omega arith) }
-
--- the whole group in one loop
-pub returns-then-n-le-BYTE_BY_BYTE : goal.returns-then-n-le-BYTE_BY_BYTE
-returns-then-n-le-BYTE_BY_BYTE c =
-    rw (← c.smaller-most.ensures) c.copy_run.ensures
-
-pub nonzero_run-k-requires : goal.nonzero_run-k-requires
-nonzero_run-k-requires c =
-    (omega arith, omega arith)
-
 -- or searched first
-pub copy-requires : goal.copy-requires
-copy-requires c =
-    let a = c.args in
-    let m = nonzero-most c.smaller-most.result (drop a.i a.s.now) in
-    record { within = (omega arith, omega arith); within_2 = (omega arith, omega arith) }
-
 pub returns : goal.returns
 returns c =
-    (rw (← c.smaller-most.ensures) c.nonzero_run-k.ensures, c.copy.ensures)
+    let a = c.args in
+    let k = c.group_length-k in
+    let group = run a.i k.result a.s.now in
+    let after : c.copy_from_slice.new.self ≡ group = c.copy_from_slice.ensures.after ∙ rw add-sub_cancel_left in
+    record {
+      inside = (omega arith, omega arith);
+      value = k.ensures.value;
+      out_after = rw after (part-overlay a.at k.result group a.out.now (length_run a.i k.result a.s.now (omega arith)));
+    }

@@ -5,16 +5,14 @@ use Prim.Native.Nat.{ℕ, min, ◌+◌, ◌-◌}
 use borrow.Author.Rules.{rules}
 use native.Mathlib.Omega.{arith}
 use Rattle.line.proofs.Alike.{put-no-byte}
+use Rattle.line.proofs.Decoding.{byte-one-if}
 use Rattle.line.proofs.InPlace.{middle-start, middle-next, middle-end, middle-ones}
+use Rattle.octets.proofs.Overlay.{part-moved}
 use Rattle.line.proofs.cobs.decode.Goals as goal
 
 pub loop-i-init : goal.loop-i-init
 loop-i-init c =
     (search rules, refl, middle-start _ _)
-
-pub put_zeros-ones-requires : goal.put_zeros-ones-requires
-put_zeros-ones-requires c =
-    let m = c.loop-i.invariant.2.behind in record { o_le_i = omega arith; i_le_n = (omega arith, omega arith) }
 
 -- code bytes 01
 pub loop-i-preserved-then-ones-gt0 : goal.loop-i-preserved-then-ones-gt0
@@ -32,15 +30,18 @@ loop-i-preserved-then-ones-gt0 c =
 pub loop-i-preserved : goal.loop-i-preserved
 loop-i-preserved c =
     let iteration = c.loop-i in
-    let e = put-no-byte 0 iteration.o c.put_zeros-ones.result iteration.s _ (omega arith) c.put_zeros-ones.ensures.3 in (
+    let e = put-no-byte 0 iteration.o c.put_zeros-ones.result iteration.s _ (omega arith) c.put_zeros-ones.ensures.3 in
+    let moved =
+    c.copy_within.ensures.after
+    ∙ part-moved (iteration.i + 1) (iteration.o + c.from-o.result) c.min-k.result c.put_held.new.s (omega arith) in (
       search rules,
       search rules,
-      rw (c.move_down.ensures, c.put_held.ensures, c.held-o.ensures.0, e)
+      rw (moved, c.put_held.ensures, c.from-o.ensures, byte-one-if iteration.zero, e)
           (middle-next c.args.s.now c.args.n iteration.s iteration.zero iteration.o iteration.i
-          c.code-c.result c.smaller-k.result
-          iteration.invariant.2 c.loop-i-test.true c.requires (rw e at c.code-c.ensures.0)
-          (c.smaller-k.ensures
-          ∙ ap (λ (m : ℕ). min m (c.args.n - (iteration.i + 1))) c.less_one.ensures)),
+          c.from-c.result c.min-k.result
+          iteration.invariant.2 c.loop-i-test.true c.requires (rw e at c.from-c.ensures)
+          (c.min-k.ensures
+          ∙ ap (λ (m : ℕ). min m (c.args.n - (iteration.i + 1))) c.saturating_sub.ensures)),
     )
 
 pub returns : goal.returns

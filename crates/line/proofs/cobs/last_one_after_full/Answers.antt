@@ -1,14 +1,8 @@
 -- `cobs::last_one_after_full` meets its contract.
 -- Assumes nothing.
 use native.Mathlib.Omega.{arith}
-use Rattle.line.proofs.Decoding.{last-below, last-others, last_byte}
+use Rattle.line.proofs.Decoding.{last-others, last_byte}
 use Rattle.line.proofs.cobs.last_one_after_full.Goals as goal
-
--- the group is not full
-pub returns-then-c-le-LONGEST_GROUP : goal.returns-then-c-le-LONGEST_GROUP
-returns-then-c-le-LONGEST_GROUP c =
-    let a = c.args in
-    last-below a.s.now a.n a.i a.c (omega arith)
 
 -- it is full, and not one byte follows
 pub returns-then-n-i-ne1 : goal.returns-then-n-i-ne1

@@ -1,5 +1,6 @@
 -- `line::reader::get_count` meets its contract.
 -- Assumes nothing.
+use mathlib.Core.Path.{◌∙◌}
 use borrow.Author.Rules.{rules}
 use Rattle.line.specs.ReaderLayout.{received_count}
 use Rattle.line.proofs.reader.get_count.Goals as goal
@@ -7,4 +8,4 @@ use Rattle.line.proofs.reader.get_count.Goals as goal
 pub returns : goal.returns
 unfolding received_count
 returns c =
-    (c.read_u16.ensures, search rules)
+    (c.from.ensures ∙ c.read_u16.ensures, search rules)

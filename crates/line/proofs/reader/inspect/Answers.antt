@@ -2,12 +2,10 @@
 -- Assumes nothing.
 use native.Mathlib.Nat.{add-sub_cancel_left}
 use native.Mathlib.Omega.{arith}
-use Rattle.line.specs.Reader.{read_report}
 use Rattle.line.proofs.Judging.{length_part, report-checksum, report-magic, report-good}
 use Rattle.line.proofs.reader.inspect.Goals as goal
 
 pub returns-then-read_u16-checksum_of_first : goal.returns-then-read_u16-checksum_of_first
-unfolding read_report
 returns-then-read_u16-checksum_of_first c =
     let a = c.args in
     rw add-sub_cancel_left at
@@ -15,7 +13,6 @@ returns-then-read_u16-checksum_of_first c =
     c.read_u16.ensures c.checksum_of_first.ensures c.read_u64-sequence.ensures c.if-read_u16-checksum_of_first.true)
 
 pub returns-then-read_u32-ne-MAGIC : goal.returns-then-read_u32-ne-MAGIC
-unfolding read_report
 returns-then-read_u32-ne-MAGIC c =
     let a = c.args in
     rw add-sub_cancel_left at
@@ -24,7 +21,6 @@ returns-then-read_u32-ne-MAGIC c =
     c.read_u32.ensures c.if-read_u32-ne-MAGIC.true)
 
 pub returns : goal.returns
-unfolding read_report
 returns c =
     let a = c.args in
     rw add-sub_cancel_left at

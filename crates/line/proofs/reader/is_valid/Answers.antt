@@ -4,12 +4,12 @@ use borrow.Author.Tests.{le-leb, lt-leb}
 use Rattle.line.specs.Reader.{valid_reader}
 use Rattle.line.proofs.reader.is_valid.Goals as goal
 
-pub returns-then-state-lt-STATE_LENGTH : goal.returns-then-state-lt-STATE_LENGTH
+pub returns-then-state-ge-STATE_LENGTH : goal.returns-then-state-ge-STATE_LENGTH
 unfolding valid_reader
-returns-then-state-lt-STATE_LENGTH c =
-    rw (lt-leb _ _ c.if-state-lt-STATE_LENGTH.true)
+returns-then-state-ge-STATE_LENGTH c =
+    rw (le-leb _ _ c.if-state-ge-STATE_LENGTH.true, c.get_count.ensures.0)
 
-pub returns : goal.returns
+pub returns-else-state-ge-STATE_LENGTH : goal.returns-else-state-ge-STATE_LENGTH
 unfolding valid_reader
-returns c =
-    rw (le-leb _ _ c.if-state-lt-STATE_LENGTH.false, c.get_count.ensures.0)
+returns-else-state-ge-STATE_LENGTH c =
+    rw (lt-leb _ _ c.if-state-ge-STATE_LENGTH.false)

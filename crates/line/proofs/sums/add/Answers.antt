@@ -2,7 +2,6 @@
 -- Assumes nothing.
 use mathlib.Core.Path.{refl, ◌∙◌}
 use native.Mathlib.Omega.{arith}
-use borrow.Author.Rules.{rules}
 use lib.ListN.{length-set}
 use lib.Seq.{get_or-set_other}
 use Rattle.line.proofs.Columns.{added_next, added-end}
@@ -10,22 +9,21 @@ use Rattle.line.proofs.sums.add.Goals as goal
 
 pub loop-i-init : goal.loop-i-init
 loop-i-init c =
-    (search rules, c.requires.0, λ k h. refl, refl)
+    (c.requires.0, λ k h. refl, refl)
 
 pub returns : goal.returns
 returns c =
-    let l = c.loop-i in added-end c.args.row.now l.sums l.i (omega arith) (omega arith) l.invariant.3
+    let l = c.loop-i in added-end c.args.row.now l.sums l.i (omega arith) (omega arith) l.invariant.2
 
 pub overflow_add-sums : goal.overflow_add-sums
 overflow_add-sums c =
-    let l = c.loop-i in omega (arith, l.invariant.2 l.i (omega arith), c.requires.2 l.i)
+    let l = c.loop-i in omega (arith, l.invariant.1 l.i (omega arith), c.requires.2 l.i)
 
 pub loop-i-preserved : goal.loop-i-preserved
 loop-i-preserved c =
     let l = c.loop-i in
     let a = c.args in (
-      search rules,
-      simp length-set l.invariant.1,
-      λ k h. get_or-set_other l.sums l.i k _ 0 (λ e. omega arith) ∙ l.invariant.2 k (omega arith),
-      added_next a.row.now l.sums l.i _ (omega arith) (omega arith) refl l.invariant.3,
+      simp length-set l.invariant.0,
+      λ k h. get_or-set_other l.sums l.i k _ 0 (λ e. omega arith) ∙ l.invariant.1 k (omega arith),
+      added_next a.row.now l.sums l.i _ (omega arith) (omega arith) refl l.invariant.2,
     )

@@ -1,20 +1,19 @@
 -- `line::sums::checksum` meets its contract. The loop keeps what the sums come to over the bytes that are left.
 -- Assumes nothing.
-use mathlib.Core.Path.{refl, ◌∙◌}
+use mathlib.Core.Path.{◌≡◌, refl, ◌∙◌}
+use Prim.Native.Nat.{◌+◌, ◌*◌}
 use native.Mathlib.Omega.{arith}
-use borrow.Author.Rules.{rules}
 use Rattle.line.specs.Checksum.{checksum}
+use Rattle.line.specs.Columns.{block_length}
 use Rattle.line.proofs.sums.checksum.Goals as goal
 
-pub loop-at-init : goal.loop-at-init
+pub loop-i-init : goal.loop-i-init
 unfolding checksum
-loop-at-init c =
-    (search rules, omega arith, omega arith, refl)
+loop-i-init c =
+    (omega arith, omega arith, refl)
 
-pub loop-at-preserved : goal.loop-at-preserved
-loop-at-preserved c =
-    (search rules, c.block-sums.ensures.0, c.block-sums.ensures.1, c.block-sums.ensures.2 ∙ c.loop-at.invariant.3)
-
-pub returns : goal.returns
-returns c =
-    c.rest.ensures ∙ c.loop-at.invariant.3
+pub loop-i-preserved : goal.loop-i-preserved
+loop-i-preserved c =
+    let sums = c.block-sums.ensures in
+    let e : (c.loop-i.i + 1) * block_length ≡ c.loop-i.i * block_length + block_length = omega arith in
+    (sums.0, sums.1, rw e (sums.2 ∙ c.loop-i.invariant.2))

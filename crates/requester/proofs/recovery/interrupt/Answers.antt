@@ -1,48 +1,44 @@
 -- `requester::recovery::interrupt` meets its contract.
 -- Assumes nothing.
-use mathlib.Core.Path.{ap}
-use mathlib.Core.Option.{none}
-use native.Mathlib.Numerals.{add-one}
-use borrow.Author.Tests.{eq-eqb, ne_eqb, le-leb, lt-leb}
-use Rattle.requester.specs.Layout.{step_number}
-use Rattle.requester.specs.Calls.{interrupt_report, interrupt_outcome, interrupt_promise}
-use Rattle.requester.proofs.Cases.{refused, passed}
+use mathlib.Core.Path.{sym}
+use Rattle.requester.specs.Calls.{interrupt_report, interrupt_promise}
 use Rattle.requester.proofs.ValidLaws.{requester-valid}
+use Rattle.requester.proofs.ProgressLaws.{progress-recovery}
+use Rattle.requester.proofs.SettlingLaws.{number-spent, number-left, number-taken}
 use Rattle.requester.proofs.recovery.interrupt.Goals as goal
 
 pub returns-then-not-requester_is_valid : goal.returns-then-not-requester_is_valid
 unfolding interrupt_promise interrupt_report
 returns-then-not-requester_is_valid c =
-    rw (refused _ _ c.requester_is_valid.ensures c.if-not-requester_is_valid.true)
+    rw (← c.if-not-requester_is_valid.ensures)
 
-pub returns-then-byte_at-ne0 : goal.returns-then-byte_at-ne0
+pub returns-then-is_some : goal.returns-then-is_some
 unfolding interrupt_promise interrupt_report
-returns-then-byte_at-ne0 c =
-    rw (passed _ _ c.requester_is_valid.ensures c.if-not-requester_is_valid.false, ← c.byte_at.ensures.0, ne_eqb _ _ c.if-byte_at-ne0.true)
+returns-then-is_some c =
+    rw (← c.if-not-requester_is_valid.ensures, progress-recovery _ _ c.read-now.ensures, ← c.if-is_some.ensures)
 
-pub returns-then-number-ge-LAST_NUMBER : goal.returns-then-number-ge-LAST_NUMBER
+pub returns-in_default : goal.returns-in_default
 unfolding interrupt_promise interrupt_report
-returns-then-number-ge-LAST_NUMBER c =
+returns-in_default c =
     rw (
-      passed _ _ c.requester_is_valid.ensures c.if-not-requester_is_valid.false,
-      ← c.byte_at.ensures.0,
-      eq-eqb _ _ c.if-byte_at-ne0.false,
-      ← c.read_u64-number.ensures,
-      le-leb _ _ c.if-number-ge-LAST_NUMBER.true,
+      ← c.if-not-requester_is_valid.ensures,
+      progress-recovery _ _ c.read-now.ensures,
+      ← c.if-is_some.ensures,
+      number-spent _ _ c.read-now.ensures _ c.in_default.ensures,
     )
 
-pub set_progress-requires : goal.set_progress-requires
-set_progress-requires c = (requester-valid _ (passed _ _ c.requester_is_valid.ensures c.if-not-requester_is_valid.false)).long
+pub write-requires : goal.write-requires
+write-requires c = (requester-valid _ (sym c.if-not-requester_is_valid.ensures)).long
 
 pub returns : goal.returns
-unfolding interrupt_promise interrupt_report step_number
+unfolding interrupt_promise interrupt_report
 returns c =
+    let v = requester-valid _ (sym c.if-not-requester_is_valid.ensures) in
     rw (
-      passed _ _ c.requester_is_valid.ensures c.if-not-requester_is_valid.false,
-      ← c.byte_at.ensures.0,
-      eq-eqb _ _ c.if-byte_at-ne0.false,
-      ← c.read_u64-number.ensures,
-      lt-leb _ _ c.if-number-ge-LAST_NUMBER.false,
-      ← c.read_u8-kept.ensures,
+      ← c.if-not-requester_is_valid.ensures,
+      progress-recovery _ _ c.read-now.ensures,
+      ← c.if-is_some.ensures,
+      number-left _ _ c.read-now.ensures v.kept _ c.in-Some.ensures,
+      c.write.ensures,
+      number-taken _ _ c.read-now.ensures v.kept _ c.in-Some.ensures,
     )
-    (ap (interrupt_outcome none) (rw add-one at c.set_progress.ensures))

@@ -1,46 +1,46 @@
 -- `requester::sending::send` meets its contract.
 -- Assumes nothing.
-use mathlib.Core.Path.{ap}
+use mathlib.Core.Path.{sym, ◌∙◌}
 use native.Mathlib.Omega.{arith}
-use Rattle.line.specs.Writer.{write_report}
+use Rattle.std.proofs.lemmas.Result.{err_from_is_err_and}
 use Rattle.requester.specs.Calls.{send_report}
-use Rattle.requester.proofs.Cases.{refused, passed}
 use Rattle.requester.proofs.ValidLaws.{requester-valid}
-use Rattle.requester.proofs.SendingLaws.{send-refused, send-nothing, send-done, send-short, send-never}
+use Rattle.requester.proofs.ProgressLaws.{progress-unsent}
+use Rattle.requester.proofs.SendingLaws.{send-refused, send-nothing, send-done, send-unwritten}
 use Rattle.requester.proofs.sending.send.Goals as goal
 
 pub returns-then-not-requester_is_valid : goal.returns-then-not-requester_is_valid
 unfolding send_report
 returns-then-not-requester_is_valid c =
-    send-refused _ _ (refused _ _ c.requester_is_valid.ensures c.if-not-requester_is_valid.true)
+    send-refused _ _ (sym c.if-not-requester_is_valid.ensures)
 
 pub returns-then-not-is_unsent : goal.returns-then-not-is_unsent
 unfolding send_report
 returns-then-not-is_unsent c =
-    send-nothing _ _ (passed _ _ c.requester_is_valid.ensures c.if-not-requester_is_valid.false)
-    (refused _ _ c.is_unsent.ensures c.if-not-is_unsent.true)
+    send-nothing _ _ (sym c.if-not-requester_is_valid.ensures)
+    (sym (progress-unsent _ _ c.read-now.ensures) ∙ sym c.if-not-is_unsent.ensures)
 
-pub write_outstanding-written-requires : goal.write_outstanding-written-requires
-write_outstanding-written-requires c = passed _ _ c.requester_is_valid.ensures c.if-not-requester_is_valid.false
+pub write_outstanding-requires : goal.write_outstanding-requires
+write_outstanding-requires c =
+    record {
+      requester_value = sym c.if-not-requester_is_valid.ensures;
+      now_value = c.read-now.ensures;
+    }
 
 pub bounds-requester-9 : goal.bounds-requester-9
 bounds-requester-9 c =
-    omega (arith, (requester-valid _ (passed _ _ c.requester_is_valid.ensures c.if-not-requester_is_valid.false)).long)
+    omega (arith, (requester-valid _ (sym c.if-not-requester_is_valid.ensures)).long)
 
-pub returns-in-Done : goal.returns-in-Done
-unfolding send_report write_report
-returns-in-Done c =
-    send-done _ _ (passed _ _ c.requester_is_valid.ensures c.if-not-requester_is_valid.false)
-    (passed _ _ c.is_unsent.ensures c.if-not-is_unsent.false) c.write_outstanding-written.ensures _ (ap write_report c.in-Done.is)
+pub returns-in_err-n : goal.returns-in_err-n
+unfolding send_report
+returns-in_err-n c =
+    let p = err_from_is_err_and c.from_residual.result c.from_residual.ensures.1 in
+    rw (p.1, p.2)
+    (send-unwritten _ _ (sym c.if-not-requester_is_valid.ensures)
+    (sym (progress-unsent _ _ c.read-now.ensures) ∙ sym c.if-not-is_unsent.ensures) c.in_err-n.ensures)
 
-pub returns-in-NoRoom : goal.returns-in-NoRoom
-unfolding send_report write_report
-returns-in-NoRoom c =
-    send-short _ _ (passed _ _ c.requester_is_valid.ensures c.if-not-requester_is_valid.false)
-    (passed _ _ c.is_unsent.ensures c.if-not-is_unsent.false) c.write_outstanding-written.ensures (ap write_report c.in-NoRoom.is)
-
-pub returns-in-TooLong : goal.returns-in-TooLong
-unfolding write_report
-returns-in-TooLong c =
-    absurd (send-never _ _ (passed _ _ c.requester_is_valid.ensures c.if-not-requester_is_valid.false)
-    (passed _ _ c.is_unsent.ensures c.if-not-is_unsent.false) c.write_outstanding-written.ensures (ap write_report c.in-TooLong.is))
+pub returns : goal.returns
+unfolding send_report
+returns c =
+    send-done _ _ (sym c.if-not-requester_is_valid.ensures)
+    (sym (progress-unsent _ _ c.read-now.ensures) ∙ sym c.if-not-is_unsent.ensures) c.in_ok-n.ensures

@@ -1,15 +1,15 @@
 -- `requester::valid::is_numbered` meets its contract.
 -- Assumes nothing.
 use Rattle.requester.specs.Valid.{is_numbered}
-use Rattle.requester.proofs.Cases.{refused, passed}
+use Rattle.requester.proofs.ProgressLaws.{progress-outstanding}
 use Rattle.requester.proofs.valid.is_numbered.Goals as goal
 
 pub returns-then-not-is_outstanding : goal.returns-then-not-is_outstanding
 unfolding is_numbered
 returns-then-not-is_outstanding c =
-    rw (refused _ _ c.is_outstanding.ensures c.if-not-is_outstanding.true)
+    rw (c.if-not-is_outstanding.true, ← progress-outstanding _ _ c.read-now.ensures, ← c.if-not-is_outstanding.ensures)
 
-pub returns : goal.returns
+pub returns-else-not-is_outstanding : goal.returns-else-not-is_outstanding
 unfolding is_numbered
-returns c =
-    rw (passed _ _ c.is_outstanding.ensures c.if-not-is_outstanding.false, ← c.read_u64.ensures)
+returns-else-not-is_outstanding c =
+    rw (c.read-now.ensures.number, ← progress-outstanding _ _ c.read-now.ensures, ← c.if-not-is_outstanding.ensures)

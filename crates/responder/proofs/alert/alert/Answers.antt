@@ -1,22 +1,24 @@
 -- `responder::alert::alert` meets its contract.
 -- Assumes nothing.
+use native.Mathlib.Nat.{add-sub_cancel_left}
 use native.Mathlib.Omega.{arith}
+use lib.ListN.{length-take}
 use Rattle.supervisor.proofs.ValidLaws.{registers-valid}
 use Rattle.responder.proofs.TakenLaws.{settled, alert-sent}
 use Rattle.responder.proofs.alert.alert.Goals as goal
 
-pub send_part-requires : goal.send_part-requires
-send_part-requires c =
+pub slice_bounds-send_part-end : goal.slice_bounds-send_part-end
+slice_bounds-send_part-end c =
     let v = c.requires.registers_value in
     let s = settled _ _ _ v c.update_alerts.ensures in
-    let long = (registers-valid _ v).long in
-    let n = c.word_at-n.ensures.0 in
-    record {
-      outbox_length_in_bounds = c.requires.outbox_length_in_bounds;
-      n_in_bounds = omega (arith, s, long, n);
-      n_le_longest_data = omega (arith, s, n);
-    }
+    omega (arith, s.same, s.text, (registers-valid _ v).long, c.word_at-n.ensures.0)
+
+pub send_part-requires-clause-part_len_bound : goal.send_part-requires-clause-part_len_bound
+send_part-requires-clause-part_len_bound c =
+    let s = settled _ _ _ c.requires.registers_value c.update_alerts.ensures in
+    simp length-take (omega (arith, s.text, c.word_at-n.ensures.0))
 
 pub returns : goal.returns
 returns c =
-    alert-sent _ _ _ _ c.update_alerts.ensures c.word_at-n.ensures.0 c.read_u8-first.ensures c.head_to-reply.ensures c.send_part.ensures
+    alert-sent _ _ _ _ c.update_alerts.ensures c.word_at-n.ensures.0 c.read_u8-first.ensures c.head_to-reply.ensures
+    (simp add-sub_cancel_left at c.send_part.ensures)

@@ -1,6 +1,6 @@
 -- `responder::alert::retain` meets its contract.
 -- Assumes nothing.
-use mathlib.Core.Path.{refl, sym, ◌∙◌}
+use mathlib.Core.Path.{sym, ◌∙◌}
 use Rattle.responder.proofs.TakenLaws.{none_retained, oldest-retained}
 use Rattle.responder.proofs.alert.retain.Goals as goal
 
@@ -13,5 +13,5 @@ returns-then-count-eq0 c =
 pub returns : goal.returns
 returns c =
     let p = c.requires in
-    oldest-retained _ _ _ p.version_bound p.registers_length_in_bounds _ refl (λ e. c.if-count-eq0.false (p.count_value ∙ e))
-    c.write_u64.ensures c.copy.ensures c.copy-2.ensures
+    oldest-retained _ _ _ p.version_bound p.registers_length_in_bounds (λ e. c.if-count-eq0.false (p.count_value ∙ e))
+    c.write_u64.ensures c.copy_within.ensures.after

@@ -11,7 +11,7 @@ retain-requires c =
     record {
       registers_length_in_bounds = (registers-valid _ p.registers_value).long;
       version_bound = p.version_bound;
-      count_value = c.byte_at-count.ensures.0;
+      count_value = c.read_u8-count.ensures;
     }
 
 pub bounds-registers-1052 : goal.bounds-registers-1052
@@ -20,7 +20,6 @@ bounds-registers-1052 c = omega (arith, (registers-valid _ c.requires.registers_
 pub returns : goal.returns
 returns c =
     let p = c.requires in
-    let count = c.byte_at-count.ensures in
-    alert-taken _ _ _ p.version_bound (registers-valid _ p.registers_value).long count.0 count.1 c.read_u64-status.ensures
-    c.retain.ensures c.retain.auto.registers c.move_down.ensures c.move_down.auto.s c.one_less.ensures c.status_after.ensures
-    c.write_u64.ensures
+    alert-taken _ _ _ p.version_bound (registers-valid _ p.registers_value).long c.read_u8-count.ensures (omega arith)
+    c.read_u64-status.ensures c.retain.ensures c.retain.auto.registers c.move_down.ensures c.move_down.auto.s c.saturating_sub.ensures
+    c.status_after.ensures c.write_u64.ensures

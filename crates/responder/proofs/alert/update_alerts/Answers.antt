@@ -4,10 +4,10 @@ use mathlib.Core.Path.{sym, ◌∙◌}
 use Rattle.responder.specs.Receive.{alert_registers}
 use Rattle.responder.proofs.alert.update_alerts.Goals as goal
 
-pub returns-then-is_retained : goal.returns-then-is_retained
+pub returns-then-not-is_retained : goal.returns-then-not-is_retained
 unfolding alert_registers
-returns-then-is_retained c = rw (sym c.is_retained.ensures ∙ c.if-is_retained.true)
+returns-then-not-is_retained c = rw (sym c.is_retained.ensures ∙ c.if-not-is_retained.true) c.take_alert.ensures
 
-pub returns : goal.returns
+pub returns-else-not-is_retained : goal.returns-else-not-is_retained
 unfolding alert_registers
-returns c = rw (sym c.is_retained.ensures ∙ c.if-is_retained.false) c.take_alert.ensures
+returns-else-not-is_retained c = rw (sym c.is_retained.ensures ∙ c.if-not-is_retained.false)

@@ -6,14 +6,15 @@ use Rattle.responder.proofs.ReceiveLaws.{block_same, block-other}
 use Rattle.responder.proofs.answers.send_block.Goals as goal
 
 pub returns-then-not-same : goal.returns-then-not-same
-returns-then-not-same c = rw (← block-other _ _ _ c.requires.factory_value _ c.same.ensures c.if-not-same.true) c.send_part.ensures
+returns-then-not-same c =
+    rw (← block-other _ _ _ c.requires.factory_value _ c.same.ensures c.if-not-same.true) c.send_part.ensures
 
-pub send-requires : goal.send-requires
-send-requires c =
+pub send_part-requires-2 : goal.send_part-requires-2
+send_part-requires-2 c =
     let l = length-take 4096 (drop c.read_u64-offset.result c.args.image.now) in
     record {
       outbox_length_in_bounds = c.requires.outbox_length_in_bounds;
-      rest_len_bound = rw c.part.ensures.result_value (omega arith);
+      part_len_bound = rw c.part-block.ensures.result_value (omega arith);
     }
 
 pub returns : goal.returns
@@ -21,6 +22,6 @@ returns c =
     rw (
       ← block_same _ _ _ c.requires.factory_value _ c.same.ensures c.if-not-same.false,
       ← c.read_u64-offset.ensures,
-      ← c.part.ensures.result_value,
+      ← c.part-block.ensures.result_value,
     )
-    c.send.ensures
+    c.send_part-2.ensures

@@ -3,7 +3,7 @@
 use native.Mathlib.Omega.{arith}
 use lib.ListN.{length-take}
 use borrow.Author.Rules.{rules}
-use Rattle.responder.proofs.ReceiveLaws.{ItemHeld, item-held, item-there, item-none}
+use Rattle.responder.proofs.ReceiveLaws.{ItemHeld, item_held-by, item-there, item-none}
 use Rattle.responder.proofs.answers.send_item.Goals as goal
 
 pub returns-then-count-index : goal.returns-then-count-index
@@ -12,34 +12,33 @@ returns-then-count-index c = rw (← item-none _ c.args.index (rw c.read_u32-cou
 pub item_data_length-n-requires : goal.item_data_length-n-requires
 item_data_length-n-requires c =
     let h : ItemHeld c.args.factory.now c.args.index =
-    item-held _ _ c.requires.factory_value (rw c.read_u32-count.ensures at c.if-count-index.false) in
+    item_held-by _ _ c.requires.factory_value c.read_u32-count.ensures c.if-count-index.false in
     search rules
 
 pub slice_bounds-send-end-2 : goal.slice_bounds-send-end-2
 slice_bounds-send-end-2 c =
     let h : ItemHeld c.args.factory.now c.args.index =
-    item-held _ _ c.requires.factory_value (rw c.read_u32-count.ensures at c.if-count-index.false) in
+    item_held-by _ _ c.requires.factory_value c.read_u32-count.ensures c.if-count-index.false in
     search rules
 
 pub overflow_add-from-2 : goal.overflow_add-from-2
 overflow_add-from-2 c =
     let h : ItemHeld c.args.factory.now c.args.index =
-    item-held _ _ c.requires.factory_value (rw c.read_u32-count.ensures at c.if-count-index.false) in
+    item_held-by _ _ c.requires.factory_value c.read_u32-count.ensures c.if-count-index.false in
     search rules
 
 pub slice_bounds-send-end-3 : goal.slice_bounds-send-end-3
 slice_bounds-send-end-3 c =
     let h : ItemHeld c.args.factory.now c.args.index =
-    item-held _ _ c.requires.factory_value (rw c.read_u32-count.ensures at c.if-count-index.false) in
+    item_held-by _ _ c.requires.factory_value c.read_u32-count.ensures c.if-count-index.false in
     search rules
 
-pub send-requires-2 : goal.send-requires-2
-send-requires-2 c =
+pub send-requires-2-clause-rest_len_bound : goal.send-requires-2-clause-rest_len_bound
+send-requires-2-clause-rest_len_bound c =
     let h : ItemHeld c.args.factory.now c.args.index =
-    item-held _ _ c.requires.factory_value (rw c.read_u32-count.ensures at c.if-count-index.false) in
-    record { outbox_length_in_bounds = c.requires.outbox_length_in_bounds; rest_len_bound = simp length-take (omega arith) }
+    item_held-by _ _ c.requires.factory_value c.read_u32-count.ensures c.if-count-index.false in
+    simp length-take (omega arith)
 
 pub returns : goal.returns
 returns c =
-    let below = rw c.read_u32-count.ensures at c.if-count-index.false in
-    rw (← item-there _ c.args.index _ below c.item_data_length-n.ensures) c.send-2.ensures
+    rw (← item-there _ c.args.index _ (rw c.read_u32-count.ensures at c.if-count-index.false) c.item_data_length-n.ensures) c.send-2.ensures

@@ -1,6 +1,6 @@
 -- `responder::answers::send_value` meets its contract.
 -- Assumes nothing.
-use Prim.Native.Nat.{◌≤◌, ◌-◌}
+use Prim.Native.Nat.{◌≤◌}
 use native.Mathlib.Omega.{arith}
 use lib.ListN.{length, length-take}
 use Rattle.responder.specs.Receive.{value_bytes}
@@ -15,12 +15,12 @@ send-requires c =
     let key = c.read_u8-key.result in
     let most = c.read_u16-most.result in
     let looked = value-valid a.factory.now a.settings.now key p.factory_value p.settings_value most in
-    let short : length c.value_at.result.now ≤ 4096 =
-    rw (c.value_at.ensures.result_value, c.find-p.ensures, ← looked) (value-short _ _ key most p.factory_value p.settings_value) in
+    let short : length c.value_at-value.result.now ≤ 4096 =
+    rw (c.value_at-value.ensures.result_value, c.find-p.ensures, ← looked) (value-short _ _ key most p.factory_value p.settings_value) in
     record {
       outbox_length_in_bounds = p.outbox_length_in_bounds;
       rest_len_bound =
-          omega (arith, length-take (c.head_length-n.result - 0) c.write_u32.new.s, c.head_length-n.ensures.1, short);
+          omega (arith, length-take c.head_length-n.result c.write_u32.new.s, c.head_length-n.ensures.1, short);
     }
 
 pub returns : goal.returns
@@ -39,6 +39,6 @@ returns c =
       ← c.edition_at.ensures,
       ← c.edition_number-edition.ensures,
       ← value-head _ c.result_number-result.result _ (omega arith) c.head_length-n.ensures.0 c.write_u32.ensures,
-      ← c.value_at.ensures.result_value,
+      ← c.value_at-value.ensures.result_value,
     )
     c.send.ensures

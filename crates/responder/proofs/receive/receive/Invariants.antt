@@ -2,14 +2,15 @@
 -- Assumes nothing.
 use Prim.Native.Nat.{◌-◌}
 use lib.ListN.{length}
-use Rattle.supervisor.specs.Calls.{parts}
+use Rattle.responder.specs.Stores.{parts_of, SameStores}
 use Rattle.responder.proofs.StepLaws.{Held}
 use Rattle.responder.proofs.receive.receive.Given as goal
 
 abbrev pub invariant-loop-at : goal.invariant-loop-at
-invariant-loop-at l =
-    Held l.image l.piece (parts l.initial.reader l.initial.outbox l.factory l.initial.settings l.initial.registers)
-    (parts l.reader l.outbox l.factory l.settings l.registers) l.at
+invariant-loop-at l = record {
+  same : SameStores l.stores l.initial.stores;
+  held : Held l.image l.piece (parts_of l.initial.reader l.initial.stores) (parts_of l.reader l.stores) l.at;
+}
 
 abbrev pub decreases-loop-at : goal.decreases-loop-at
 decreases-loop-at l = length l.piece - l.at

@@ -24,7 +24,7 @@ returns-then-key-lt-FIRST_SETTING c = search cases
 
 pub store_at-requires : goal.store_at-requires
 store_at-requires c =
-    let e = c.longest_setting-longest.ensures.0 in
+    let e = c.longest_setting.ensures.0 in
     let l = within _ c.if-key-lt-FIRST_SETTING.false c.if-key-gt-HIGHEST_KEY.false in
     search rules
 
@@ -35,7 +35,7 @@ returns c =
       cases,
       c.store_at.ensures,
       c.cleared_for.ensures.0,
-      c.longest_setting-longest.ensures.0,
-      c.shortest_setting-shortest.ensures,
-      c.setting_offset-at.ensures.0,
+      c.longest_setting.ensures.0,
+      c.shortest_setting.ensures,
+      c.setting_offset.ensures.0,
     )

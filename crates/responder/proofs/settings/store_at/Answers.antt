@@ -17,4 +17,4 @@ pub returns : goal.returns
 returns c =
     let p = c.requires in
     value-put _ _ _ _ _ _ c.if-n-shortest.false c.if-longest-n.false c.read_u32-edition.ensures p.in_bounds p.longest_in_bounds
-    p.cleared_le_longest c.if-edition.false c.clear_value.ensures c.write_u32.ensures c.write_u16.ensures c.copy.ensures
+    p.cleared_le_longest c.if-edition.false c.clear.ensures c.write_u32.ensures c.write_u16.ensures c.copy.ensures

@@ -20,7 +20,7 @@ pub returns : goal.returns
 returns c =
     record {
       value = search rules;
-      settings_after = entry-put _ _ c.requires.whole_record _ c.word_at-n.ensures.0 c.read_u8.ensures
+      settings_after = entry-put _ _ c.requires.whole_record _ c.read_u16-n.ensures c.read_u8.ensures
           c.setting_offset-to.ensures.0
-          c.read_u32-edition.ensures c.requires.settings_length_in_bounds c.set_head.ensures c.copy.ensures;
+          c.read_u32-edition.ensures c.requires.settings_length_in_bounds c.set_head.ensures (rw c.from.ensures at c.copy.ensures);
     }

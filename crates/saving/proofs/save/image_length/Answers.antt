@@ -1,7 +1,7 @@
--- `saving::save::image_length` meets its contract. The loop's invariant: n and the length of the records left are the image's length.
+-- `saving::save::image_length` meets its contract.
+-- The loop's invariant: n and the length of the records left are the image's length and the end mark's.
 -- Assumes nothing.
-use mathlib.Core.Path.{ap}
-use native.Mathlib.Nat.{zero-add}
+use mathlib.Core.Path.{refl, ap}
 use native.Mathlib.Omega.{arith}
 use borrow.Author.Rules.{rules}
 use lib.ListN.{length}
@@ -9,17 +9,21 @@ use Rattle.saving.specs.Calls.{image_bytes}
 use Rattle.saving.proofs.ImageLaws.{length-on, records-end}
 use Rattle.saving.proofs.save.image_length.Goals as goal
 
-pub loop-i-init : goal.loop-i-init
+pub loop-key-init : goal.loop-key-init
 unfolding image_bytes
-loop-i-init c =
-    (search rules, search rules, zero-add _)
+loop-key-init c =
+    (search rules, refl)
 
-pub loop-i-preserved : goal.loop-i-preserved
-loop-i-preserved c =
-    let l = length-on c.args.settings.now c.loop-i.i c.loop-i-test.true in
-    (search rules, omega (arith, c.record_length-n.ensures.1), omega (arith, l, c.record_length-n.ensures.0, c.loop-i.invariant.2))
+pub overflow_add-n : goal.overflow_add-n
+overflow_add-n c =
+    omega arith
+
+pub loop-key-preserved : goal.loop-key-preserved
+loop-key-preserved c =
+    let l = length-on c.args.settings.now c.loop-key.key (omega arith) in
+    (omega (arith, c.record_length-n.ensures.1), omega (arith, l, c.record_length-n.ensures.0, c.loop-key.invariant.1))
 
 pub returns : goal.returns
 returns c =
-    let l = ap length (records-end c.args.settings.now c.loop-i.i c.loop-i-test.false) in
-    omega (arith, l, c.loop-i.invariant.2)
+    let l = ap length (records-end c.args.settings.now c.loop-key.key (omega arith)) in
+    omega (arith, l, c.loop-key.invariant.1)

@@ -18,14 +18,15 @@ pub write_body-requires : goal.write_body-requires
 write_body-requires c =
     let p = c.requires in
     let offset = c.setting_offset-from.ensures.0 in
-    let h = held-record _ _ _ offset c.read_u8.ensures c.word_at-n.ensures.0 c.if-read_u8-ne1.false p.settings_value p.settings_key in
+    let h = held-record _ _ _ offset c.read_u8.ensures (c.from-n.ensures ∙ c.read_u16.ensures) c.if-read_u8-ne1.false
+    p.settings_value p.settings_key in
     record { n_in_bounds = omega (arith, h.within); n_bound = search rules; n_in_bounds_2 = omega (arith, h.size) }
 
 pub returns : goal.returns
 returns c =
     let p = c.requires in
     let h =
-    held-record _ _ _ c.setting_offset-from.ensures.0 c.read_u8.ensures c.word_at-n.ensures.0 c.if-read_u8-ne1.false
+    held-record _ _ _ c.setting_offset-from.ensures.0 c.read_u8.ensures (c.from-n.ensures ∙ c.read_u16.ensures) c.if-read_u8-ne1.false
     p.settings_value p.settings_key in
     let room = h.size in
     record {

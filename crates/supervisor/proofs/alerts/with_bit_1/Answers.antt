@@ -1,15 +1,19 @@
--- `supervisor::alerts::with_bit_1` meets its contract.
+-- `supervisor::alerts::with_bit_1` meets its contract, case by case.
 -- Assumes nothing.
-use borrow.Author.Tests.{eq-eqb, ne_eqb}
+use Prim.Native.Nat.{ℕ, zero, suc, ◌≤◌}
+use mathlib.Core.Path.{◌≡◌, refl}
+use native.Mathlib.Omega.{arith}
+use lib.Bits.{bit_or}
 use Rattle.supervisor.specs.Local.{set_bit}
 use Rattle.supervisor.proofs.alerts.with_bit_1.Goals as goal
 
-pub returns-then-status-eq1 : goal.returns-then-status-eq1
+cases : (n : ℕ) → n ≤ 3 → bit_or n 2 ≡ set_bit n 1
 unfolding set_bit
-returns-then-status-eq1 c =
-    rw (eq-eqb _ 1 c.if-status-eq1.true)
+cases zero h = refl
+cases (suc zero) h = refl
+cases (suc (suc zero)) h = refl
+cases (suc (suc (suc zero))) h = refl
+cases (suc (suc (suc (suc n)))) h = absurd (omega arith)
 
-pub returns-else-status-eq1 : goal.returns-else-status-eq1
-unfolding set_bit
-returns-else-status-eq1 c =
-    rw (ne_eqb _ 1 c.if-status-eq1.false)
+pub returns : goal.returns
+returns c = cases c.args.status c.requires

@@ -8,4 +8,4 @@ use Rattle.supervisor.proofs.loads.byte.Goals as goal
 pub returns : goal.returns
 returns c =
     let a = c.args in
-    (c.wide.ensures.0 ∙ number-one a.s.now a.at (search rules), c.wide.ensures.1)
+    (c.from.ensures ∙ number-one a.s.now a.at (search rules), search rules)

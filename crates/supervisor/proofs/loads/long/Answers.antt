@@ -1,9 +1,11 @@
--- `supervisor::loads::long` meets its contract: its two halves are joined.
+-- `supervisor::loads::long` meets its contract: of 8 bytes the number is their sum, each by its worth.
 -- Assumes nothing.
-use Rattle.octets.proofs.Numbers.{number-join}
+use mathlib.Core.Path.{ap, ◌∙◌}
+use borrow.Author.Rules.{rules}
+use Rattle.octets.specs.Bytes.{number}
+use Rattle.octets.proofs.Numbers.{number-of_8}
 use Rattle.supervisor.proofs.loads.long.Goals as goal
 
 pub returns : goal.returns
 returns c =
-    let a = c.args in
-    rw (c.quad-high.ensures, c.quad-low.ensures) (number-join 4 4 a.s.now a.at)
+    c.from_le_bytes.ensures ∙ (number-of_8 c.fixed.result (search rules) ∙ ap number c.fixed.ensures)

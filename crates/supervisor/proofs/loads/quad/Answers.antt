@@ -1,9 +1,11 @@
--- `supervisor::loads::quad` meets its contract: its two halves are joined.
+-- `supervisor::loads::quad` meets its contract: of 4 bytes the number is their sum, each by its worth.
 -- Assumes nothing.
-use Rattle.octets.proofs.Numbers.{number-join}
+use mathlib.Core.Path.{ap, ◌∙◌}
+use borrow.Author.Rules.{rules}
+use Rattle.octets.specs.Bytes.{number}
+use Rattle.octets.proofs.Numbers.{number-of_4}
 use Rattle.supervisor.proofs.loads.quad.Goals as goal
 
 pub returns : goal.returns
 returns c =
-    let a = c.args in
-    rw (c.word-high.ensures.0, c.word-low.ensures.0) (number-join 2 2 a.s.now a.at)
+    c.from_le_bytes.ensures ∙ (number-of_4 c.fixed.result (search rules) ∙ ap number c.fixed.ensures)

@@ -1,10 +1,11 @@
--- `supervisor::loads::word` meets its contract: its two bytes are joined.
+-- `supervisor::loads::word` meets its contract: of 2 bytes the number is their sum, each by its worth.
 -- Assumes nothing.
+use mathlib.Core.Path.{ap, ◌∙◌}
 use borrow.Author.Rules.{rules}
-use Rattle.octets.proofs.Numbers.{number-join}
+use Rattle.octets.specs.Bytes.{number}
+use Rattle.octets.proofs.Numbers.{number-of_2}
 use Rattle.supervisor.proofs.loads.word.Goals as goal
 
 pub returns : goal.returns
 returns c =
-    let a = c.args in
-    (rw (c.byte-high.ensures.0, c.byte-low.ensures.0) (number-join 1 1 a.s.now a.at), search rules)
+    (c.from.ensures ∙ (c.from_le_bytes.ensures ∙ (number-of_2 c.fixed.result (search rules) ∙ ap number c.fixed.ensures)), search rules)

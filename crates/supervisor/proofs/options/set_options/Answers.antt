@@ -1,19 +1,25 @@
--- `supervisor::options::set_options` meets its contract.
+-- `supervisor::options::set_options` meets its contract: the options lie within valid registers.
 -- Assumes nothing.
 use mathlib.Core.Path.{sym, ◌∙◌}
-use Rattle.supervisor.proofs.OptionLaws.{options-refused, options-bad, options-done}
+use native.Mathlib.Omega.{arith}
+use Rattle.octets.specs.Bytes.{bytes}
+use Rattle.octets.proofs.Numbers.{length-bytes}
+use Rattle.octets.proofs.Overlay.{put-fits}
+use Rattle.supervisor.specs.Layout.{options_offset}
+use Rattle.supervisor.specs.Calls.{options_promise}
+use Rattle.supervisor.proofs.ValidLaws.{registers-valid}
 use Rattle.supervisor.proofs.options.set_options.Goals as goal
 
-pub returns-then-not-registers_are_valid : goal.returns-then-not-registers_are_valid
-returns-then-not-registers_are_valid c =
-    options-refused _ _ (sym c.registers_are_valid.ensures ∙ c.if-not-registers_are_valid.true)
-
-pub returns-then-not-options_are_allowed : goal.returns-then-not-options_are_allowed
-returns-then-not-options_are_allowed c =
-    options-bad _ _ (sym c.registers_are_valid.ensures ∙ c.if-not-registers_are_valid.false)
-    (sym c.options_are_allowed.ensures ∙ c.if-not-options_are_allowed.true)
-
 pub returns : goal.returns
+unfolding options_promise
 returns c =
-    options-done _ _ (sym c.registers_are_valid.ensures ∙ c.if-not-registers_are_valid.false)
-    (sym c.options_are_allowed.ensures ∙ c.if-not-options_are_allowed.false) c.write_u64.ensures
+    let r = c.args.registers.now in
+    let valid = sym c.registers_are_valid.ensures ∙ c.if-not-registers_are_valid.false in
+    let g = registers-valid r valid in
+    let k = length-bytes 8 c.args.options in
+    rw (
+      valid,
+      sym c.options_are_allowed.ensures ∙ c.if-not-options_are_allowed.false,
+      c.write_u64.ensures,
+      put-fits options_offset (bytes 8 c.args.options) r (omega arith),
+    )

@@ -1,15 +1,12 @@
--- `digest::digest_on` meets its contract. The loop keeps what the digest comes to over the bytes that are left.
+-- `digest::digest_on` meets its contract.
 -- Assumes nothing.
-use mathlib.Core.Path.{sym, ◌∙◌}
-use borrow.Author.Rules.{rules}
-use Rattle.text_lines.proofs.Laws.{digest-next, digest-end}
+use Rattle.std.proofs.Common.{◌≡◌, ◌+◌, ◌*◌, ◌%◌, ◌∙◌, rules}
+use Rattle.std.specs.List.{fold}
+use Rattle.text_lines.proofs.Laws.{digest-fold}
 use Rattle.text_lines.proofs.digest.digest_on.Goals as goal
-
-pub loop-i-preserved : goal.loop-i-preserved
-loop-i-preserved c =
-    let l = c.loop-i in
-    rw c.digest_more-d.ensures (sym (digest-next l.d l.i _ (search rules)) ∙ l.invariant)
 
 pub returns : goal.returns
 returns c =
-    let l = c.loop-i in sym (digest-end l.d l.i _ (search rules)) ∙ l.invariant
+    let a = c.args in
+    let e : c.fold.result ≡ fold (λ d b. (d * 31 + b + 1) % 65521) a.before a.s.now = search rules in
+    e ∙ digest-fold a.before a.s.now

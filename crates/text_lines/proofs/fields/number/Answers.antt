@@ -7,15 +7,15 @@ use Rattle.text_lines.proofs.fields.number.Goals as goal
 
 pub returns-then-base-d : goal.returns-then-base-d
 returns-then-base-d c =
-    let l = c.loop-i in
-    sym (digits-none _ l.value l.i _ (search rules) (rw c.digit-d.ensures.0 at c.if-base-d.true)) ∙ l.invariant
+    let l = c.loop-b in
+    sym (digits-none _ l.value l.b-index _ (search rules) (rw c.digit-d.ensures.0 at c.if-base-d.true)) ∙ l.invariant
 
-pub loop-i-preserved : goal.loop-i-preserved
-loop-i-preserved c =
-    let l = c.loop-i in
+pub loop-b-preserved : goal.loop-b-preserved
+loop-b-preserved c =
+    let l = c.loop-b in
     let e = c.digit-d.ensures.0 in
-    rw (c.with_digit-value.ensures, e) (sym (digits-one _ l.value l.i _ (search rules) (rw e at c.if-base-d.false)) ∙ l.invariant)
+    rw (c.with_digit-value.ensures, e) (sym (digits-one _ l.value l.b-index _ (search rules) (rw e at c.if-base-d.false)) ∙ l.invariant)
 
 pub returns : goal.returns
 returns c =
-    let l = c.loop-i in sym (digits-end _ l.value l.i _ (search rules)) ∙ l.invariant
+    let l = c.loop-b in sym (digits-end _ l.value l.b-index _ (search rules)) ∙ l.invariant

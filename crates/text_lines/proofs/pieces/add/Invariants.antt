@@ -1,16 +1,10 @@
 -- `pieces::add` meets its contract. The loop's invariant: the first j bytes stand behind the piece.
 -- Assumes nothing.
-use Prim.Native.Nat.{◌-◌, ◌≤◌}
 use mathlib.Core.Path.{◌≡◌}
-use lib.ListN.{length, take}
+use lib.ListN.{take}
 use Rattle.octets.specs.Bytes.{overlay}
 use Rattle.text_lines.specs.Pieces.{values, added_at}
 use Rattle.text_lines.proofs.pieces.add.Given as goal
 
 abbrev pub invariant-loop-j : goal.invariant-loop-j
-invariant-loop-j l =
-    (l.j ≤ l.more) × (length l.room ≡ length l.initial.room)
-    × (l.room ≡ overlay l.n (values (added_at l.line (take l.n l.initial.room)) l.j) l.initial.room)
-
-abbrev pub decreases-loop-j : goal.decreases-loop-j
-decreases-loop-j l = l.more - l.j
+invariant-loop-j l = l.room ≡ overlay l.n (values (added_at l.line (take l.n l.initial.room)) l.j) l.initial.room

@@ -1,0 +1,3 @@
+-- Definitions of why a call is refused.
+-- Assumes nothing.
+pub mod Refusals
