@@ -67,7 +67,7 @@ pub const REPLY_INVENTORY: u8 = 0x0b;
 
 pub const REPLY_KEY_SET: u8 = 0x0c;
 
-// Why a frame fails: the data of a decode failure.
+// Why a frame fails: the data of a decode failure. Numbers, since `counters` promises of each number of a failure.
 pub const REASON_FORM: u8 = 1;
 
 pub const REASON_CHECKSUM: u8 = 2;

@@ -135,6 +135,7 @@ fn standing_numbers(s: Standing) -> [u64; 5]
     [state, command, s.number, unsent, original]
 }
 
+// C's number of a stage.
 #[tactic(auto, unfolding(requester::specs::Calls::stage_report))]
 fn stage_number(stage: Stage) -> u64
     ensures { result ≡ stage_number (stage_report stage) }

@@ -16,7 +16,7 @@ pub struct Probe {
 }
 
 // Gives each part that `indices` names the result at the same index of `results`, the later one where a part is named
-// twice. All changes are tested before the first is made.
+// twice. All changes are tested before the first is made. Two lists side by side, as C lends them.
 pub fn update(list: &mut [Probe], indices: &[usize], results: &[u8]) -> Result<(), Refusal>
     ensures { update_outcome result list.new
         ≡ update_promise list.old indices.now results.now }

@@ -21,6 +21,7 @@ pub struct Received {
 }
 
 // Reads a piece up to and with its first 00 or a frame's 4,141st byte, or to its end, and goes by what was heard.
+// C lends both parts by themselves, and the two functions below take them on.
 pub fn receive(piece: &[u8], reader: &mut [u8], requester: &mut [u8]) -> Result<Received, Refusal>
     ensures { main_receive_outcome result (main_parts reader.new requester.new)
         ≡ main_receive_promise (main_parts reader.old requester.old) piece.now }

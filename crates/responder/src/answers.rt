@@ -14,7 +14,7 @@ use crate::sending::{send, send_part};
 use line::numbers;
 use supervisor::{keys, layout};
 
-// The result for an index out of range, and the bytes of name and type behind it.
+// The result for an index out of range, which no lent byte holds, and the bytes of name and type behind it.
 const BAD_INDEX: u8 = 1;
 
 const NAME_AND_TYPE: usize = 33;
@@ -65,7 +65,7 @@ pub(crate) fn send_status(outbox: &mut [u8], reply: ReplyHead, registers: &[u8])
     send_part(outbox, reply, numbers::REPLY_STATUS, status);
 }
 
-// A block of the image: hash[32], offset u64.
+// A block of the image: hash[32], offset u64. As the others here it takes what it reads, and no more.
 pub(crate) fn send_block(
     outbox: &mut [u8],
     reply: ReplyHead,

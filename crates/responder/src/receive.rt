@@ -31,7 +31,7 @@ pub struct Stepped {
     pub outcome: Outcome,
 }
 
-// Reads a piece to its end, or up to and with its first 00, and carries out what the frame asks for.
+// Reads a piece to its end, or up to and with its first 00, and carries out what the frame asks for. C lends each part by itself.
 pub fn step(
     image: &[u8],
     piece: &[u8],

@@ -45,6 +45,7 @@ pub enum Location {
 }
 
 // The value of a key, if it has at most `most` bytes; an empty part where `lookup_result` is not 0.
+// The stores are two slices, as C lends them.
 #[tactic(auto, unfolding(crate::specs::Calls::lookup_promise, crate::specs::Calls::lookup_place))]
 pub fn lookup<'a>(factory: &'a [u8], settings: &'a [u8], key: u8, most: u16) -> &'a [u8]
     ensures result_value { result.now ≡ lookup_promise factory.now settings.now key most }

@@ -53,7 +53,7 @@ pub const HIGHEST_OPTION: u32 = 8;
 
 pub const OPTION_ZEROS: u32 = 63 - HIGHEST_OPTION;
 
-// What a BSU is.
+// What a BSU is. Numbers, here and below: a lent store has them as bytes, and the test for 12 promises of each byte.
 pub const BSU_A: usize = 0x41;
 
 pub const BSU_B: usize = 0x42;
