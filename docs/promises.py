@@ -1,6 +1,7 @@
 #!/usr/bin/env python3
 """Puts the wrong answers that are tried under each call of docs/PROMISES.md: the first lines of the edits, crates/*/must-fail/*.edit, which the gate tries, and
-tests/mutants/*/*.edit. A first line is `# call: wrong answer`, or `# call, call: wrong answer`.
+tests/mutants/*/*.edit. A first line is `# call: wrong answer`, or `# call, call: wrong answer`. A call of a
+type has its type's name ahead where another call has the same name.
 Assumes the form of that document: `## `CRATE`` begins a crate, and a heading ### that begins with a code span the calls that it names. Their wrong answers
 are the list behind the line "Wrong answers tried:" at the section's end.
 
@@ -26,7 +27,7 @@ def edits():
     for kind, form in (('edit', 'crates/*/must-fail/*.edit'), ('mutant', 'tests/mutants/*/*.edit')):
         for path in sorted(ROOT.glob(form)):
             crate = path.parts[len(ROOT.parts) + (1 if kind == 'edit' else 2)]
-            match = re.match(r'# ([^:]+): (.+)', path.read_text().split('\n')[0])
+            match = re.match(r'# (.+?): (.+)', path.read_text().split('\n')[0])
             if not match:
                 sys.exit(f'promises: {path.relative_to(ROOT)}: the first line is no "# call: wrong answer"')
             yield crate, match.group(1).split(', '), f'- {kind} `{path.stem}`: {match.group(2)}'
@@ -57,7 +58,7 @@ def made(text, wanted):
     """The document with the lists of these edits, the edits that have no call there, and the calls that have a section: crate and path."""
     pieces, named, placed = [], set(), set()
     for crate, calls, lines in sections(text):
-        names = {call.split('::')[-1] for call in calls if (crate, call.split('::')[-1]) not in placed}
+        names = {call.split('::')[-1] for call in calls if (crate, call.split('::')[-1]) not in placed} | set(calls)
         placed |= {(crate, name) for name in names}
         named |= {(crate, re.sub(r'^[A-Z]\w*::', '', call)) for call in calls}  # a method without its type
         found = [line for other, edited, line in wanted if other == crate and names & set(edited)]

@@ -14,6 +14,7 @@ pub enum Refusal {
     TooLong,
     // eight alerts wait
     AlertsFull,
+    // start data that are not allowed
     BadStart,
     // a lent part is too short, or its bytes are those of no state
     BadState,
