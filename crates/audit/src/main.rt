@@ -30,7 +30,8 @@ fn audit_input<R: Read, W: Write>(
         (λ capture. Appends (W.contents output.old) (W.contents output.new) (audit_of capture))) }
 {
     let n = read_full(input, room)?;
-    let text = audit(&room[..n]);
+    let mut text = Text::new();
+    audit(&room[..n], &mut text);
     output.write_all(text.as_bytes())?;
     Ok(())
 }
@@ -53,17 +54,16 @@ fn read_full<R: Read>(input: &mut R, room: &mut [u8]) -> std::io::Result<usize>
     Ok(done)
 }
 
-// The program's text for a capture.
-fn audit(capture: &[u8]) -> Text
-    ensures { result ≡ audit_of capture.now }
+// The program's text for a capture. It is lent: handed out by value, it would lie on the stack twice.
+fn audit(capture: &[u8], text: &mut Text)
+    requires { text.old ≡ [] }
+    ensures { text.new ≡ audit_of capture.now }
 {
-    let mut text = Text::new();
     if LONGEST_CAPTURE < capture.len() {
         text.put(b"too long\n");
     } else {
-        list(capture, &mut text);
+        list(capture, text);
     }
-    text
 }
 
 // The listing of a capture as text.

@@ -12,5 +12,5 @@ pub returns : goal.returns
 returns g c =
     let a = c.args in
     let long : length a.room.now ≡ longest_capture + 1 = omega arith in
-    audited _ _ _ c.in_ok-n.n a.room.now c.read_full.new.room c.audit-text.result long c.in_ok-n.ensures.bytes
-    c.audit-text.ensures (rw c.as_bytes.ensures at c.in_ok-write_all.ensures.bytes)
+    audited _ _ _ c.in_ok-n.n a.room.now c.read_full.new.room c.audit.new.text long c.in_ok-n.ensures.bytes
+    c.audit.ensures (rw c.as_bytes.ensures at c.in_ok-write_all.ensures.bytes)
