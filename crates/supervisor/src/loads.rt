@@ -8,9 +8,7 @@ fn fixed<const N: usize>(s: &[u8], at: usize) -> [u8; N]
     requires { at + N ≤ length s.now }
     ensures { result ≡ run at N s.now }
 {
-    let mut bytes = [0; N];
-    bytes.copy_from_slice(&s[at..at + N]);
-    bytes
+    <[u8; N]>::try_from(&s[at..at + N]).unwrap()
 }
 
 // The numbers of one byte and of two bytes at an offset, as an index.
