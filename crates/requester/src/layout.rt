@@ -23,3 +23,12 @@ pub const LENGTH_OFFSET: usize = 12;
 pub const DATA_OFFSET: usize = 14;
 
 pub const REQUESTER_LENGTH: usize = DATA_OFFSET + limits::LONGEST_DATA;
+
+// The steps of a recovery.
+pub const NO_STEP: u8 = 0;
+
+pub const FETCH: u8 = 1;
+
+pub const ACKNOWLEDGE: u8 = 2;
+
+pub const ALERT: u8 = 3;

@@ -4,13 +4,14 @@ ghost use Rattle.std.specs.Prelude.{◌≡◌};
 ghost use Rattle.requester.specs.Layout.{step_at, step_number};
 ghost use Rattle.requester.specs.Progress.{recovery_report, step_command};
 
+use crate::layout;
 use line::numbers;
 
 #[derive(Clone, Copy, Debug, PartialEq, Eq)]
 pub(crate) enum Step {
-    Fetch = 1,
-    Acknowledge = 2,
-    Alert = 3,
+    Fetch,
+    Acknowledge,
+    Alert,
 }
 
 impl Step {
@@ -20,9 +21,9 @@ impl Step {
         ensures { recovery_report result ≡ step_at stored }
     {
         match stored {
-            0 => None,
-            1 => Some(Step::Fetch),
-            2 => Some(Step::Acknowledge),
+            layout::NO_STEP => None,
+            layout::FETCH => Some(Step::Fetch),
+            layout::ACKNOWLEDGE => Some(Step::Acknowledge),
             _ => Some(Step::Alert),
         }
     }
@@ -33,8 +34,10 @@ impl Step {
         ensures { result ≡ step_number (recovery_report step) }
     {
         match step {
-            None => 0,
-            Some(t) => t as u8,
+            None => layout::NO_STEP,
+            Some(Step::Fetch) => layout::FETCH,
+            Some(Step::Acknowledge) => layout::ACKNOWLEDGE,
+            Some(Step::Alert) => layout::ALERT,
         }
     }
 
