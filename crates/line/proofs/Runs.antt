@@ -114,6 +114,20 @@ reached-block most k j xs h l =
     let e : j + (most - (k + j)) ≡ most - k = omega arith in
     omega (arith, rw (e, drop-drop) at (nonzero-add j (most - (k + j)) (drop k xs) l))
 
+-- a run that is shorter than it may be goes no further
+nonzero-still : (j most : ℕ) (xs : List ℕ) → j ≤ most → length (nonzero j xs) < j → nonzero most xs ≡ nonzero j xs
+unfolding nonzero
+nonzero-still zero most xs h l = absurd (omega arith)
+nonzero-still (suc j) zero xs h l = absurd (omega arith)
+nonzero-still (suc j) (suc most) [] h l = refl
+nonzero-still (suc j) (suc most) (zero ∷ xs) h l = refl
+nonzero-still (suc j) (suc most) (suc b ∷ xs) h l = ap (λ (l : List ℕ). suc b ∷ l) (nonzero-still j most xs (omega arith) (omega arith))
+
+-- the run ends within the next j bytes
+pub reached-stop : (most k j : ℕ) (xs : List ℕ) → k + j ≤ most → length (nonzero j (drop k xs)) < j
+    → run_length most k xs ≡ k + length (nonzero j (drop k xs))
+reached-stop most k j xs h l = rw (nonzero-still j (most - k) (drop k xs) (omega arith) l)
+
 -- ---- a search for the first zero
 
 first-zero : (xs : List ℕ) → length (nonzero (length xs) xs) ≡ position_or_len (λ b. eqb b 0) xs

@@ -1,14 +1,36 @@
--- Laws of the commands' numbers: the command of a listed number.
+-- Laws of the commands' numbers: the ranges that they fill, and the command of a listed number.
 -- Assumes nothing.
-use mathlib.Core.Path.{◌≡◌, refl, ap, ◌∙◌}
+use mathlib.Core.Path.{◌≡◌, refl, sym, ap, ◌∙◌}
+use mathlib.Core.Bool.{Bool, true, false, not, ◌&&◌, ◌||◌}
 use mathlib.Core.List.{List, [], ◌∷◌}
 use mathlib.Core.Option.{some}
-use Prim.Native.Nat.{ℕ}
+use Prim.Native.Nat.{ℕ, ◌<◌}
 use native.Mathlib.Omega.{arith}
-use lib.Dec.{eqb}
-use borrow.Author.Tests.{eqb-true}
+use lib.Dec.{leb, eqb}
+use borrow.Author.Tests.{eqb-true, not-true}
 use Rattle.octets.proofs.Conditions.{cond-by}
+use Rattle.supervisor.specs.Valid.{all}
+use Rattle.supervisor.proofs.ValidLaws.{all-each}
 use Rattle.responder.specs.Commands.{Command, command_number, commands, with_number, command_of_number}
+use Rattle.responder.specs.Requests.{known}
+
+-- ---- the ranges
+
+abbrev pub in_ranges : ℕ → Bool
+in_ranges c = (leb 0x01 c && leb c 0x0a) || (leb 0x0d c && leb c 0x10)
+
+abbrev same : Bool → Bool → Bool
+same true b = b
+same false b = not b
+
+same_true : (a b : Bool) → same a b ≡ true → a ≡ b
+same_true true b e = sym e
+same_true false b e = sym (not-true b e)
+
+-- tried for every byte
+pub known-ranges : (c : ℕ) → c < 256 → known c ≡ in_ranges c
+unfolding known command_of_number with_number command_number all
+known-ranges c h = same_true (known c) (in_ranges c) (all-each (λ n. same (known n) (in_ranges n)) 256 refl c h)
 
 -- ---- the command of a number has it
 
