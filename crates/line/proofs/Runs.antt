@@ -144,6 +144,17 @@ not_found : (t : Bool) (m : ℕ) → None ≡ cond t (Some m) None → t ≡ fal
 not_found true m e = cc
 not_found false m e = refl
 
+pub zero-at : (xs : List ℕ) {n : ℕ} → Some n ≡ position (λ b. eqb b 0) xs → (n ≡ length (nonzero (length xs) xs)) × (n ≤ length xs)
+zero-at xs {n} e =
+    let f = found _ _ n e in
+    let g = ltb-true _ _ f.0 in
+    (omega (arith, first-zero xs, f.1), omega (arith, g, f.1))
+
+pub no-zero : (xs : List ℕ) → None ≡ position (λ b. eqb b 0) xs → length xs ≡ length (nonzero (length xs) xs)
+no-zero xs e =
+    let g = ltb-false _ _ (not_found _ _ e) in
+    omega (arith, first-zero xs, g, nonzero-length (length xs) xs)
+
 -- the bytes of a list behind those that are passed
 module _ (k : ℕ) (s : List ℕ) (h : k ≤ length s) where
   abbrev rest : List ℕ
@@ -158,15 +169,12 @@ module _ (k : ℕ) (s : List ℕ) (h : k ≤ length s) where
       rw (rest-length, nonzero-take, m)
 
   pub zero_found : {n : ℕ} → Some n ≡ position (λ b. eqb b 0) rest → (k + n ≡ run_length (length s) k s) × (k + n ≤ length s)
-  zero_found {n} e =
-      let f = found _ _ n e in
-      let g = ltb-true _ _ f.0 in
-      (omega (arith, rest-run, first-zero rest, f.1), omega (arith, rest-length, g, f.1))
+  zero_found e =
+      let z = zero-at rest e in
+      (omega (arith, rest-run, z.0), omega (arith, rest-length, z.1))
 
   pub zero_not_found : None ≡ position (λ b. eqb b 0) rest → length s ≡ run_length (length s) k s
-  zero_not_found e =
-      let g = ltb-false _ _ (not_found _ _ e) in
-      omega (arith, rest-run, first-zero rest, rest-length, g, nonzero-length (length rest) rest)
+  zero_not_found e = omega (arith, rest-run, rest-length, no-zero rest e)
 
 -- a part of a list
 module _ (at n : ℕ) (s : List ℕ) (h : at + n ≤ length s) where

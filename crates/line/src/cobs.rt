@@ -10,7 +10,7 @@ ghost use Rattle.line.specs.Cobs.{cobs, last_one_after_full, uncobs};
 ghost use Rattle.line.specs.Decoding.{measured, plain};
 
 use crate::limits::LONGEST_GROUP;
-use crate::scan::{BLOCK, block_alike, copy_run, next_alike, nonzero_run};
+use crate::scan::{BLOCK, block_alike, copy_run, ends_soon, next_alike, run_ahead};
 
 // Up to this length a message's groups are searched and copied in one loop, byte by byte.
 const BYTE_BY_BYTE: u32 = 64;
@@ -100,7 +100,7 @@ fn group_length(s: &[u8], i: u32, n: u32) -> u32
     ensures value { result ≡ length (nonzero (min longest_group (n - i)) (drop i s.now)) }
 {
     let most = LONGEST_GROUP.min(n - i);
-    nonzero_run(&s[i as usize..(i + most) as usize]) as u32
+    run_ahead(&s[i as usize..(i + most) as usize]) as u32
 }
 
 // Copies the bytes of the next group, ahead of n, and says how many.
@@ -111,7 +111,7 @@ fn copy_group(s: &[u8], i: u32, n: u32, out: &mut [u8], at: u32) -> u32
     ensures value { result ≡ length (nonzero (min longest_group (n - i)) (drop i s.now)) }
     ensures out_after { out.new ≡ overlay at (run i result s.now) out.old }
 {
-    if n <= BYTE_BY_BYTE {
+    if n <= BYTE_BY_BYTE || ends_soon(&s[i as usize..n as usize]) {
         return copy_run(s, i, LONGEST_GROUP.min(n - i), out, at);
     }
     let k = group_length(s, i, n);

@@ -25,6 +25,38 @@ pub(crate) fn nonzero_run(s: &[u8]) -> usize
     }
 }
 
+// Whether a zero is near: a loop over single bytes is then the shortest way. All of the next few bytes are tested, so that the compiler
+// tests them together.
+pub(crate) fn ends_soon(s: &[u8]) -> bool {
+    SMALL_BLOCK <= s.len()
+        && s[..SMALL_BLOCK]
+            .iter()
+            .fold(false, |zero, b| zero | (*b == 0))
+}
+
+// As `nonzero_run`, for runs that are often short.
+pub(crate) fn run_ahead(s: &[u8]) -> usize
+    ensures most { result ≤ length s.now }
+    ensures value { result ≡ length (nonzero (length s.now) s.now) }
+{
+    if ends_soon(s) {
+        short_run(s)
+    } else {
+        nonzero_run(s)
+    }
+}
+
+// As `nonzero_run`, by single bytes.
+fn short_run(s: &[u8]) -> usize
+    ensures most { result ≤ length s.now }
+    ensures value { result ≡ length (nonzero (length s.now) s.now) }
+{
+    match first_zero(s) {
+        Some(n) => n,
+        None => s.len(),
+    }
+}
+
 // Where the first zero stands.
 fn first_zero(s: &[u8]) -> Option<usize>
     ensures { result ≡ position (λ b. b == 0) s.now }

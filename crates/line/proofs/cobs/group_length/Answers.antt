@@ -10,8 +10,8 @@ pub returns : goal.returns
 returns c =
     let a = c.args in
     let l = length-part a.i c.min-most.result a.s.now (omega arith) in
-    let m = c.nonzero_run.ensures.most in
+    let m = c.run_ahead.ensures.most in
     record {
       inside = (omega arith, omega arith);
-      value = rw (← c.min-most.ensures) (c.nonzero_run.ensures.value ∙ ap length (part-run a.i c.min-most.result a.s.now (omega arith)));
+      value = rw (← c.min-most.ensures) (c.run_ahead.ensures.value ∙ ap length (part-run a.i c.min-most.result a.s.now (omega arith)));
     }
