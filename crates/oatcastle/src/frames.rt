@@ -74,8 +74,10 @@ pub extern "C" fn oatcastle_line_data(state: &[u8], length: u64, room: &mut [u8]
     ensures { call_outcome result room.new ≡ line_data_call state.now length room.old }
 {
     let n = length as usize;
-    let given = line::reader::message_data_given(state, n);
-    number(fill(given, line::reader::message_data(state, n), room))
+    match line::reader::message_data_given(state, n) {
+        Ok(()) => number(fill(Ok(()), line::reader::message_data(state, n), room)),
+        Err(why) => why.number(),
+    }
 }
 
 // How many bytes of an unfinished frame have come.
