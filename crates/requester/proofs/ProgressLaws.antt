@@ -5,7 +5,7 @@ use mathlib.Core.Bool.{Bool, true, false, cond, not, not-not, ◌&&◌, ◌||◌
 use mathlib.Core.List.{List, [], ◌∷◌, ◌++◌}
 use mathlib.Core.Option.{Option, none, some}
 use Rattle.std.specs.Prelude as Std
-use Prim.Native.Nat.{ℕ, ◌+◌, ◌-◌, ◌≤◌}
+use Prim.Native.Nat.{ℕ, zero, suc, ◌+◌, ◌-◌, ◌≤◌}
 use native.Mathlib.Omega.{arith}
 use lib.Dec.{eqb}
 use lib.ListN.{length, set}
@@ -65,6 +65,14 @@ module _ (r : List ℕ) (long : Layout.requester_length ≤ length r) where
       )
 
 -- ---- steps
+
+pub step-number : (n : ℕ) → n ≤ 3 → Layout.step_number (Layout.step_at n) ≡ n
+unfolding Layout.step_number Layout.step_at
+step-number zero h = refl
+step-number (suc zero) h = refl
+step-number (suc (suc zero)) h = refl
+step-number (suc (suc (suc zero))) h = refl
+step-number (suc (suc (suc (suc n)))) h = absurd (omega arith)
 
 pub step-at : (t : Option RecoveryStep) → Layout.step_at (Layout.step_number t) ≡ t
 unfolding Layout.step_number Layout.step_at
