@@ -170,7 +170,12 @@ fn alerts_are_valid(registers: &[u8], n: usize) -> bool
     requires registers_length_in_bounds { registers_length ≤ length registers.now }
     ensures { result ≡ valid_alerts registers.now n }
 {
-    (0..n).all(|i| alert_is_valid(registers, i))
+    for i in 0..n {
+        if !alert_is_valid(registers, i) {
+            return false;
+        }
+    }
+    true
 }
 
 // Whether the highest option bit set is at most 8: at least 55 zeros lead.
