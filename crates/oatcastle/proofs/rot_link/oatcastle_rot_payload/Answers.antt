@@ -1,6 +1,5 @@
 -- `oatcastle_rot_payload` meets its contract: a payload that is not empty is of no refused input.
 -- Assumes nothing.
-use native.Mathlib.Omega.{arith}
 use borrow.Author.Rules.{rules}
 use Rattle.rot.proofs.Reading.{payload-given}
 use Rattle.oatcastle.proofs.rot_link.oatcastle_rot_payload.Goals as goal
