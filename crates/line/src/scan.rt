@@ -1,5 +1,5 @@
 // Runs of bytes that are not zero, and runs of bytes that are alike: whole blocks at a time.
-// Offsets and lengths have 32 bits, for processors of that width.
+// Offsets and lengths that go in beside a slice have 32 bits, for processors of that width.
 // Assumes that the bytes named lie within the slices, as each `requires` states.
 ghost use Rattle.std.specs.Prelude.{◌≡◌, true, false, ◌==◌, ◌&&◌, ◌+◌, ◌≤◌, length, drop, position, replicate};
 ghost use Rattle.std.specs.List.{fold};
