@@ -12,7 +12,7 @@ ghost use Rattle.line.specs.Decoding.{measured, plain};
 use crate::limits::LONGEST_GROUP;
 use crate::scan::{BLOCK, block_alike, copy_run, ends_soon, next_alike, run_ahead};
 
-// Up to this length a message's groups are searched and copied in one loop, byte by byte.
+// Up to this length a message's groups are searched and copied in one loop, byte by byte; in a longer one, those that end soon.
 const BYTE_BY_BYTE: u32 = 64;
 
 // The length of the COBS form of the first n bytes of s.

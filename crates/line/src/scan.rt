@@ -1,5 +1,5 @@
 // Runs of bytes that are not zero, and runs of bytes that are alike: whole blocks at a time.
-// Offsets and lengths that go in beside a slice have 32 bits, for processors of that width.
+// Offsets and lengths have 32 bits where a caller names a part of a slice, for processors of that width; `pass_blocks` counts in its own.
 // Assumes that the bytes named lie within the slices, as each `requires` states.
 ghost use Rattle.std.specs.Prelude.{◌≡◌, true, false, ◌==◌, ◌&&◌, ◌+◌, ◌≤◌, length, drop, position, replicate};
 ghost use Rattle.std.specs.List.{fold};
@@ -25,8 +25,8 @@ pub(crate) fn nonzero_run(s: &[u8]) -> usize
     }
 }
 
-// Whether a zero is near: a loop over single bytes is then the shortest way. All of the next few bytes are tested, so that the compiler
-// tests them together.
+// Whether one of the next 8 bytes is zero, where so many are there: single bytes are then the shortest way. Either answer gives the same
+// run. All 8 are tested, so that the compiler tests them together.
 pub(crate) fn ends_soon(s: &[u8]) -> bool {
     SMALL_BLOCK <= s.len()
         && s[..SMALL_BLOCK]

@@ -3,7 +3,7 @@
 use mathlib.Core.Path.{◌≡◌, refl, sym}
 use mathlib.Core.Bool.{true}
 use mathlib.Core.List.{List, []}
-use Prim.Native.Nat.{ℕ, ◌+◌, ◌≤◌, ◌<◌}
+use Prim.Native.Nat.{ℕ, ◌+◌, ◌≤◌}
 use native.Mathlib.Omega.{arith}
 use borrow.Author.Tests.{ltb-false, eqb-true, eq-eqb, ne_eqb, not-false, le-ltb}
 use lib.ListN.{length}
@@ -17,9 +17,8 @@ use Rattle.rot.specs.Writing.{rot_message_with, rot_write_promise}
 use Rattle.rot.specs.Reading.{protocol_of, type_of, payload_length, crc_field, rot_payload, checked, RotVerdict, failure, unsent, good}
 use Rattle.rot.specs.Reading.{no_input, nothing_sent, wrong_protocol, short_header, long_payload, cut_short, wrong_crc, wrong_type}
 use Rattle.rot.specs.Reading.{judge_message, judge_length, rot_judge, judged_as, serve_message, answer_to, rot_read_promise, handed_part}
-use Rattle.rot.specs.Reading.{payload_promise, payload_offset, verdict_number, payload_given_promise}
+use Rattle.rot.specs.Reading.{payload_promise, payload_offset}
 use Rattle.std.specs.Prelude.{Ok, Some}
-use Rattle.std.proofs.Math.Option as report
 
 -- what is known of a message that was read: its fields, and that it passed the tests
 pub record Sound (input : List ℕ) (m : RotMessage) : Type 0 where
@@ -71,17 +70,6 @@ write-sends : (m : RotMessage) (out : List ℕ) → length m.payload ≤ longest
     → rot_write_into (rot_message m) out ≡ rot_write_promise m out
 unfolding rot_write_promise
 write-sends m out fits l = rw (le-ltb longest_payload (length m.payload) fits, l)
-
--- a refused input has no payload
-given-by : (v : RotVerdict) → 0 < length (handed_part v) → verdict_number v ≡ report.none
-unfolding handed_part verdict_number
-given-by (failure n) h = absurd (omega arith)
-given-by unsent h = refl
-given-by (good m) h = refl
-
-pub payload-given : (input : List ℕ) → 0 < length (payload_promise input) → payload_given_promise input ≡ report.none
-unfolding payload_promise payload_given_promise
-payload-given input h = given-by (rot_judge input) h
 
 -- ---- a message by the code's verdict
 

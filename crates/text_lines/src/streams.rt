@@ -11,7 +11,7 @@ use std::io;
 use std::io::Read;
 
 // More lines than any input has.
-const MOST_LINES: u64 = 1000000;
+pub const MOST_LINES: u64 = 1000000;
 
 // A line longer than this is taken in pieces.
 pub const LINE_ROOM: usize = 128;
