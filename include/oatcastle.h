@@ -1016,87 +1016,87 @@ uint32_t oatcastle_rot_crc(const uint8_t *bytes, oatcastle_length bytes_length,
  * oatcastle_line_start              144      8      8     16                         12,453  12,454
  * oatcastle_line_read               408    544    580    464  no data                 1,578   1,255
  *                                                             4,104 bytes            94,308  82,874
- * oatcastle_line_data               176     32     40     16  no data                    81      81
- *                                                             4,104 bytes            16,501  16,501
- * oatcastle_line_tail               136      0     16      0                             30      31
- * oatcastle_line_write            4,616  4,776  4,804  4,672  no data                   827     796
- *                                                             4,104 bytes           100,886  97,806
- * oatcastle_line_checksum           200    296    300    288  no byte                    37      36
- *                                                             4,104 bytes            33,018  32,185
- * oatcastle_start                   208     40     48     48                         86,719  86,708
- * oatcastle_receive               5,224  5,256  5,308  5,120  a byte                    481     457
- *                                                             a status request        3,233   2,845
- *                                                             a set of 4,096 bytes  112,198 100,696
- *                                                             a set of key 6         17,325  16,768
- *                                                             no byte                   413     388
- *                                                             16 bytes                1,106   1,003
- *                                                             64 bytes                1,448   1,388
- *                                                             lookup of 4,096       103,274  99,724
- *                                                             full: no byte           1,234   1,208
- *                                                             full: 16 bytes          1,928   1,824
- *                                                             full: 64 bytes          2,268   2,209
- *                                                             full: a byte            1,299   1,275
- *                                                             full: status request    4,050   3,661
- *                                                             full: lookup of 4,096 104,102 100,552
- *                                                             full: set of 4,096    113,137 101,594
- * oatcastle_collect                 216    208    240    128  a byte                     89      90
+ * oatcastle_line_data               160     16     40     16  no data                    60      59
+ *                                                             4,104 bytes            16,479  16,479
+ * oatcastle_line_tail               136      0     16      0                             31      31
+ * oatcastle_line_write            4,616  4,776  4,812  4,672  no data                   810     789
+ *                                                             4,104 bytes           103,069  99,056
+ * oatcastle_line_checksum           200    296    300    288  no byte                    37      37
+ *                                                             4,104 bytes            33,018  32,184
+ * oatcastle_start                   208     40     48     48                         86,719  86,709
+ * oatcastle_receive               5,224  5,256  5,316  5,120  a byte                    388     366
+ *                                                             a status request        3,123   2,752
+ *                                                             a set of 4,096 bytes  112,082 100,596
+ *                                                             a set of key 6         17,214  16,673
+ *                                                             no byte                   320     296
+ *                                                             16 bytes                1,013     912
+ *                                                             64 bytes                1,354   1,297
+ *                                                             lookup of 4,096       105,363 100,883
+ *                                                             full: no byte           1,063   1,048
+ *                                                             full: 16 bytes          1,756   1,663
+ *                                                             full: 64 bytes          2,098   2,048
+ *                                                             full: a byte            1,129   1,114
+ *                                                             full: status request    3,860   3,498
+ *                                                             full: lookup of 4,096 106,108 101,635
+ *                                                             full: set of 4,096    112,943 101,424
+ * oatcastle_collect                 216    208    240    128  a byte                     89      89
  *                                                             16 bytes                  183     194
  *                                                             64 bytes                  483     531
- * oatcastle_step                  5,208  5,400  5,420  5,200  a byte                  1,001     894
- *                                                             a status request        3,273   2,839
- *                                                             a set of 4,096 bytes  112,238 100,691
- *                                                             a set of key 6         17,368  16,766
- * oatcastle_clear_counters          136      8      8     16                            124     123
- * oatcastle_receive_counted       5,240  5,328  5,364  5,200  a byte                  1,581     931
- *                                                             a status request        3,857   2,878
- *                                                             a set of 4,096 bytes  112,819 100,728
- *                                                             a set of key 6         17,950  16,803
- *                                                             16 bytes                1,728   1,034
- *                                                             64 bytes                2,070   1,419
- *                                                             full: 16 bytes          2,549   1,854
- *                                                             full: 64 bytes          2,891   2,241
- *                                                             full: a byte            2,402   1,752
- * oatcastle_step_counted          5,208  5,472  5,508  5,264  a byte                  1,451     906
- *                                                             a status request        3,728   2,854
- *                                                             a set of 4,096 bytes  112,693 100,707
- *                                                             a set of key 6         17,823  16,782
- * oatcastle_take                    192     68    104     80  37 bytes                  308     271
- *                                                             an image block         16,669  16,633
- * oatcastle_post                    192     84    152     96  no text                   201     201
- *                                                             256 bytes               1,248   1,248
- * oatcastle_set_options             136     44     80     48                            171     171
- * oatcastle_lookup                  248    136    160    144  key 0                     473     351
- *                                                             4,096 bytes            16,894  16,789
- * oatcastle_edition                 200    128    136    128                            279     199
- * oatcastle_save                    360    384    420    368  no setting                213     213
- *                                                             8,483 bytes           102,776 101,056
- * oatcastle_restore                 344    344    388    352  no setting                216     216
- *                                                             8,483 bytes           102,858 101,138
- * oatcastle_signal                  136     60     96     64                            181     181
- * oatcastle_flags                   144     44     80     48                            181     182
- * oatcastle_boot_failure_record     184    100    176     80  none                      381     380
- *                                                             512 bytes               2,524   2,479
- * oatcastle_panic_record            184    100    176     80  none                      378     378
- *                                                             512 bytes               2,523   2,479
+ * oatcastle_step                  5,208  5,400  5,428  5,200  a byte                    908     803
+ *                                                             a status request        3,161   2,745
+ *                                                             a set of 4,096 bytes  112,126 100,596
+ *                                                             a set of key 6         17,259  16,673
+ * oatcastle_clear_counters          136      8      8     16                            124     124
+ * oatcastle_receive_counted       5,240  5,328  5,372  5,200  a byte                  1,489     841
+ *                                                             a status request        3,746   2,784
+ *                                                             a set of 4,096 bytes  112,708 100,633
+ *                                                             a set of key 6         17,841  16,710
+ *                                                             16 bytes                1,635     943
+ *                                                             64 bytes                1,977   1,329
+ *                                                             full: 16 bytes          2,378   1,693
+ *                                                             full: 64 bytes          2,720   2,079
+ *                                                             full: a byte            2,230   1,591
+ * oatcastle_step_counted          5,208  5,472  5,516  5,264  a byte                  1,358     816
+ *                                                             a status request        3,617   2,760
+ *                                                             a set of 4,096 bytes  112,582 100,611
+ *                                                             a set of key 6         17,715  16,689
+ * oatcastle_take                    192     48     64     48  37 bytes                  253     253
+ *                                                             an image block         16,614  16,615
+ * oatcastle_post                    192     64    136     96  no text                   164     114
+ *                                                             256 bytes               1,203   1,153
+ * oatcastle_set_options             136     24     64     48                            114      94
+ * oatcastle_lookup                  248    136    160    144  key 0                     423     301
+ *                                                             4,096 bytes            16,844  16,739
+ * oatcastle_edition                 200    128    136    128                            254     174
+ * oatcastle_save                    360    384    420    368  no setting                181     181
+ *                                                             8,483 bytes           102,751 101,031
+ * oatcastle_restore                 344    344    388    352  no setting                186     186
+ *                                                             8,483 bytes           102,833 101,114
+ * oatcastle_signal                  136     40     80     64                            124      93
+ * oatcastle_flags                   136     24     64     48                            124      98
+ * oatcastle_boot_failure_record     184     88    160     80  none                      267     218
+ *                                                             512 bytes               2,410   2,276
+ * oatcastle_panic_record            184     88    160     80  none                      263     214
+ *                                                             512 bytes               2,409   2,275
  * oatcastle_requester_start         160     16     16     16                         24,828  24,828
- * oatcastle_requester_request     4,568  4,800  4,876  4,736  no data                 1,064     876
- *                                                             4,104 bytes           117,546 114,310
+ * oatcastle_requester_request     4,568  4,800  4,884  4,736  no data                 1,048     868
+ *                                                             4,104 bytes           119,723 115,557
  * oatcastle_requester_interrupt     136     80    184    128                            208      73
- * oatcastle_requester_send        4,616  4,888  4,956  4,832  no data                 1,028     820
- *                                                             4,104 bytes           101,084  97,829
- * oatcastle_requester_receive       504    600    652    544  37 bytes                2,371   1,811
- *                                                             4,104 bytes            94,693  83,060
- * oatcastle_requester_state         152     88    184    144                            214      71
- * oatcastle_addresses               184    152    248    160                            634     617
- * oatcastle_plan                    136      8     40     16                             25      23
- * oatcastle_probe_update            168     40     56      0  1 part                     74      74
- *                                                             64 parts                1,379   1,379
- * oatcastle_rot_read              1,328  1,216  1,264  1,216  no payload              8,008   7,911
- *                                                             512 bytes              15,968  15,872
+ * oatcastle_requester_send        4,616  4,888  4,964  4,832  no data                 1,011     813
+ *                                                             4,104 bytes           103,260  99,075
+ * oatcastle_requester_receive       504    600    652    544  37 bytes                2,372   1,812
+ *                                                             4,104 bytes            94,694  83,061
+ * oatcastle_requester_state         152     88    184    144                            214      72
+ * oatcastle_addresses               184    152    248    160                            634     616
+ * oatcastle_plan                    136      8     40     16                             24      23
+ * oatcastle_probe_update            168     40     56      0  1 part                     73      73
+ *                                                             64 parts                1,378   1,378
+ * oatcastle_rot_read              1,328  1,216  1,264  1,216  no payload              8,008   7,912
+ *                                                             512 bytes              15,968  15,871
  * oatcastle_rot_payload           1,296  1,144  1,184  1,168  512 bytes              15,923   8,983
  * oatcastle_rot_write             1,296  1,192  1,232  1,184  no payload              4,018   3,989
- *                                                             512 bytes               9,019   8,991
- * oatcastle_rot_crc               1,216  1,064  1,104  1,088  no byte                 3,874   3,874
+ *                                                             512 bytes               9,018   8,991
+ * oatcastle_rot_crc               1,216  1,064  1,104  1,088  no byte                 3,873   3,873
  *                                                             512 bytes               6,828   6,828
  * ---- End of the table
  */
